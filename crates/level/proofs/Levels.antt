@@ -47,10 +47,10 @@ module _ (labels : List ℕ) (n : ℕ) where
     antisymmetric = λ a b p q.
         let d = says a b p in
         let e = says b a q in
-        distinct a b (d .high) (d .low) (label-laws .antisymmetric _ _ (d .over) (e .over));
+        distinct .one a b (d .high) (d .low) (label-laws .antisymmetric _ _ (d .over) (e .over));
     higher = λ a b p m.
         let d = says a b p in
-        label-laws .higher _ _ (d .over) (λ e. m (distinct a b (d .high) (d .low) e));
+        label-laws .higher _ _ (d .over) (λ e. m (distinct .one a b (d .high) (d .low) e));
   }
 
   inside : (a b : ℕ) → a < 16 → b < 16 → entryOf (orderOf labels n) a b ≡ levelDominates labels n a b

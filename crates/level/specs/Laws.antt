@@ -19,8 +19,8 @@ pub record LabelLaws : Type 0 where
   pub higher : (a b : ℕ) → dominates a b ≡ true → a ≢ b → heightOf b < heightOf a
 
 -- "Each has a distinct label": no two of the first n labels are one.
-abbrev pub Distinct : List ℕ → ℕ → Type 0
-Distinct labels n = (a b : ℕ) → a < n → b < n → getD labels a 0 ≡ getD labels b 0 → a ≡ b
+pub record Distinct (labels : List ℕ) (n : ℕ) : Type 0 where
+  pub one : (a b : ℕ) → a < n → b < n → getD labels a 0 ≡ getD labels b 0 → a ≡ b
 
 -- Of the n levels that distinct labels give.
 pub record LevelLaws (labels : List ℕ) (n : ℕ) : Type 0 where

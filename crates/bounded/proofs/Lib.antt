@@ -1,0 +1,9 @@
+pub mod Cases
+pub mod First
+pub mod All
+pub mod Any
+pub mod Count
+pub mod Sum
+pub mod Fold
+pub mod Lists
+pub mod Reflection
