@@ -1,0 +1,15 @@
+pub mod Numbers
+pub mod Description
+pub mod Tables
+pub mod Buffers
+pub mod Legal
+pub mod Judge
+pub mod Listed
+pub mod Conditions
+pub mod Effect
+pub mod Insert
+pub mod Delete
+pub mod Update
+pub mod Uplevel
+pub mod Select
+pub mod Run
