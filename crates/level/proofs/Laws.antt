@@ -7,6 +7,7 @@ use Prim.Native.Nat.{ℕ, _/_, _%_, _≤_, _<_, zero-le}
 use native.Mathlib.Nat.{lt-of-not-le}
 use native.Mathlib.Omega.{arith}
 use lib.Bits.{bitAnd, and-self, and-comm, and-zero-r, and-le-l}
+use lib.Count.{ones-le}
 use borrow.Author.Tests.{leb-true, eqb-true, le-leb, eq-eqb}
 use Rattle.level.specs.Label.{rankOf, compartmentsOf, contains, dominates, bottomLabel, heightOf}
 use Rattle.level.specs.Laws.{LabelLaws}
@@ -55,5 +56,9 @@ higher a b p n =
     let h = contains-ones (a % 256) (b % 256) (d .set) in
     lt-of-not-le λ l. n (omega (arith, h .1 (omega arith), and-le-l (a % 256) (b % 256)))
 
+low : (a : ℕ) → a ≤ 4095 → heightOf a < 24
+unfolding heightOf rankOf compartmentsOf
+low a h = omega (arith, ones-le 8 (a % 256) (omega arith))
+
 pub label-laws : LabelLaws
-label-laws = record { reflexive = reflexive; transitive = transitive; antisymmetric = antisymmetric; bottom = bottom; higher = higher }
+label-laws = record { reflexive = reflexive; transitive = transitive; antisymmetric = antisymmetric; bottom = bottom; higher = higher; low = low }

@@ -17,6 +17,8 @@ pub record LabelLaws : Type 0 where
   pub bottom : (a : ℕ) → dominates a bottomLabel ≡ true
   -- "so strict dominance means greater height"
   pub higher : (a b : ℕ) → dominates a b ≡ true → a ≢ b → heightOf b < heightOf a
+  -- a label "0 to 4095" has a rank of at most 15 and at most 8 compartments
+  pub low : (a : ℕ) → a ≤ 4095 → heightOf a < 24
 
 -- "Each has a distinct label": no two of the first n labels are one.
 pub record Distinct (labels : List ℕ) (n : ℕ) : Type 0 where

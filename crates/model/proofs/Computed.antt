@@ -20,8 +20,8 @@ use Rattle.model.specs.Delete.{referred, deleteTests, deleted}
 use Rattle.model.specs.Update.{updateFormed, anyMet, updateTests, setIn, takeIn, updated}
 use Rattle.model.specs.Uplevel.{uplevelFormed, based, entityOf, borrowedNames, uplevelTests, borrowed, raised, placed, uplevelled}
 use Rattle.model.specs.Select.{selectFormed, asked, foundAt, found, valuesShown, ownersShown, selectTests}
-use Rattle.model.specs.Run.{empty, formedAs, formed, further, firstFault, tests, refusal, effectAs, after, metCount, shownAs, countAs, refused, done, run}
+use Rattle.model.specs.Run.{empty, formedAs, formed, further, firstFault, tests, refusal, effectAs, left, after, metCount, shownAs, countAs, refused, done, run}
 
 unfoldable pub computed : ℕ
-unfolding ones onesIn rankOf compartmentsOf contains dominates bottomLabel heightOf levelDominates upTo rowOf orderOf entryOf firstBelow allBelow anyBelow countBelow sumBelow foldBelow listBelow concatBelow writeAt faultNumber answerNumber countOf verdictNumber between distinctBelow isLevel over labelOf heightAt isRelation ofRelation columnCount rowCount foreignOf refersOf isColumn lowOf highOf inRange sizeOf startOf totalOf labelsSound foreignSound relationSound sound same emptyRow used seen place seek at ownNull lends fitting inside positionOf stateOf inOrder buffersOf fits cellRight referenceRight rowRight legal judge whole pairs columnAt secondAt each listed lists columnsOnce among eachLevel levelsOnce conditionAt conditionCount constantFormed conditionFormed conditionsFormed passes meetsTest meets met agrees changed goneAt reach carry applied lowestEmpty hasRoom namesRow keyListed insertFormed listedNames insertTests newRow inserted referred deleteTests deleted updateFormed anyMet updateTests setIn takeIn updated uplevelFormed based entityOf borrowedNames uplevelTests borrowed raised placed uplevelled selectFormed asked foundAt found valuesShown ownersShown selectTests empty formedAs formed further firstFault tests refusal effectAs after metCount shownAs countAs refused done run
+unfolding ones onesIn rankOf compartmentsOf contains dominates bottomLabel heightOf levelDominates upTo rowOf orderOf entryOf firstBelow allBelow anyBelow countBelow sumBelow foldBelow listBelow concatBelow writeAt faultNumber answerNumber countOf verdictNumber between distinctBelow isLevel over labelOf heightAt isRelation ofRelation columnCount rowCount foreignOf refersOf isColumn lowOf highOf inRange sizeOf startOf totalOf labelsSound foreignSound relationSound sound same emptyRow used seen place seek at ownNull lends fitting inside positionOf stateOf inOrder buffersOf fits cellRight referenceRight rowRight legal judge whole pairs columnAt secondAt each listed lists columnsOnce among eachLevel levelsOnce conditionAt conditionCount constantFormed conditionFormed conditionsFormed passes meetsTest meets met agrees changed goneAt reach carry applied lowestEmpty hasRoom namesRow keyListed insertFormed listedNames insertTests newRow inserted referred deleteTests deleted updateFormed anyMet updateTests setIn takeIn updated uplevelFormed based entityOf borrowedNames uplevelTests borrowed raised placed uplevelled selectFormed asked foundAt found valuesShown ownersShown selectTests empty formedAs formed further firstFault tests refusal effectAs left after metCount shownAs countAs refused done run
 computed = 0

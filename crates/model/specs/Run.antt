@@ -100,12 +100,13 @@ effectAs d q (Whats.Uplevel key class) S =
     some (uplevelled d (subject q) (relation q) (entityOf d (subject q) (relation q) key class (rowsOf S)) (q .list) (rowsOf S))
 effectAs d q Whats.Select S = none
 
+-- the state T after that
+unfoldable pub left : Description → ℕ → Option Effect → State → State
+left d c none T = T
+left d c (some E) T = λ l. record { rows = λ r i. applied d c E (rowsOf T) r l i }
+
 unfoldable pub after : Description → Request → State → State
-after d q S =
-    elim (effectAs d q (q .statement .what) (seen d (subject q) S)) [
-      | none ↦ S
-      | some E ↦ λ l. record { rows = λ r i. applied d (subject q) E (rowsOf S) r l i }
-    ]
+after d q S = left d (subject q) (effectAs d q (q .statement .what) (seen d (subject q) S)) S
 
 -- ---- what is answered
 
