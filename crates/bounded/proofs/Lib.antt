@@ -6,4 +6,5 @@ pub mod Count
 pub mod Sum
 pub mod Fold
 pub mod Lists
+pub mod Parts
 pub mod Reflection

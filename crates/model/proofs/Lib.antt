@@ -1,3 +1,4 @@
 pub mod Computed
 pub mod Build
 pub mod Worked
+pub mod Border
