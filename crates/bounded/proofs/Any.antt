@@ -8,7 +8,7 @@ use borrow.Author.Tests.{lt-ltb, le-ltb, not-true, not-false}
 use native.Mathlib.Nat.{le-refl}
 use Rattle.bounded.specs.Bounded.{allBelow, anyBelow, firstBelow}
 use Rattle.bounded.proofs.Cases.{at-end}
-use Rattle.bounded.proofs.All.{all-more, all-fails, all-end, all-at, all-of, all-cong}
+use Rattle.bounded.proofs.All.{all-more, all-fails, all-at, all-of, all-cong}
 use Rattle.bounded.proofs.First.{First, found, absent, first-cases}
 
 some-fails : (a b : Bool) → (not a || b) ≡ not (a && not b)

@@ -1,7 +1,6 @@
 -- The laws of the levels that distinct labels give, and of the order that is laid out.
 -- Assumes nothing.
 use mathlib.Core.Path.{_≡_, refl, sym, _∙_}
-use mathlib.Core.Logic.{_≢_}
 use mathlib.Core.Bool.{Bool, true, false, _&&_}
 use mathlib.Core.List.{List, []}
 use Prim.Native.Nat.{ℕ, _<_, _≤_}
@@ -10,9 +9,9 @@ use native.Mathlib.Decide.{decLt}
 use lib.Dec.{ltb}
 use lib.ListN.{getD}
 use borrow.Author.Tests.{ltb-true, lt-ltb, le-ltb}
-use Rattle.level.specs.Label.{dominates, heightOf}
+use Rattle.level.specs.Label.{dominates}
 use Rattle.level.specs.Order.{levelDominates, rowOf, orderOf, entryOf}
-use Rattle.level.specs.Laws.{LabelLaws, Distinct, LevelLaws, OrderLaws}
+use Rattle.level.specs.Laws.{Distinct, LevelLaws, OrderLaws}
 use Rattle.level.proofs.Laws.{label-laws, and-true}
 use Rattle.level.proofs.Fill.{getD-upTo}
 

@@ -2,17 +2,14 @@
 -- empty outside the description are those of their buffers.
 -- Assumes nothing.
 use mathlib.Core.Path.{_≡_, refl, sym, ap, ap₂, _∙_, fun-ext}
-use mathlib.Core.Bool.{Bool, true, false, _&&_}
+use mathlib.Core.Bool.{true, false}
 use mathlib.Core.List.{List}
-use mathlib.Core.Logic.{_⊎_, inl, inr}
-use Prim.Native.Nat.{ℕ, zero, suc, pred, _+_, _*_, _≤_, _<_}
-use native.Mathlib.Nat.{le-refl, add-assoc, add-mul, mul-assoc, mul-le-mul-right}
+use Prim.Native.Nat.{ℕ, suc, pred, _+_, _*_, _≤_, _<_}
+use native.Mathlib.Nat.{add-assoc, add-mul, mul-assoc, mul-le-mul-right}
 use native.Mathlib.Omega.{arith}
-use lib.Dec.{eqb, ltb, leb}
 use lib.ListN.{length, take, drop, getD}
 use lib.Seq.{take-length, drop-drop}
 use borrow.Author.Tests.{lt-ltb, le-leb}
-use Rattle.bounded.specs.Tests.{if_then_else_}
 use Rattle.bounded.specs.Bounded.{sumBelow}
 use Rattle.bounded.specs.Lists.{listBelow, concatBelow}
 use Rattle.bounded.proofs.Cases.{cases}
@@ -21,7 +18,7 @@ use Rattle.bounded.proofs.Lists.{list-length}
 use Rattle.bounded.proofs.Reflection.{is-true, of-true, and-r, eqb-r, leb-r, ltb-r}
 use Rattle.model.specs.declared.Description.{Description}
 use Rattle.model.specs.Description.{between, isLevel, isRelation, ofRelation, columnCount, rowCount, isColumn, sizeOf, startOf, totalOf}
-use Rattle.model.specs.Tables.{Cell, cell, nocell, Level, State}
+use Rattle.model.specs.Tables.{Cell, cell, nocell, State}
 use Rattle.model.specs.Buffers.{Buffers, fitting, inside, positionOf, stateOf, inOrder, buffersOf}
 
 -- ---- where parts begin

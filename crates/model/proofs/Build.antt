@@ -3,7 +3,6 @@
 use Prim.Native.Nat.{ℕ}
 use mathlib.Core.Path.{_≡_}
 use mathlib.Core.List.{List, [], _∷_, _++_, map}
-use lib.ListN.{replicate}
 use Rattle.model.specs.declared.Description.{Description}
 use Rattle.model.specs.declared.What.{What}
 use Rattle.model.specs.declared.What.the-variants as Whats

@@ -1,4 +1,10 @@
 pub mod Computed
 pub mod Build
 pub mod Worked
+pub mod Sample
+pub mod Rules
+pub mod Meeting
+pub mod Limits
+pub mod Refusals
+pub mod Judging
 pub mod Border

@@ -1,7 +1,8 @@
 -- P1 to P12 (01, "Worked rows"), one list with a single claim, over the definition of one call and on buffers: numbers, counts, every cell.
 -- Assumes nothing.
-use mathlib.Core.Path.{_≡_, refl}
-use mathlib.Core.List.{List, [], _∷_}
+use mathlib.Core.Path.{refl}
+use mathlib.Core.List.{List, [], _∷_, _++_}
+use Prim.Native.Nat.{ℕ}
 use lib.ListN.{replicate}
 use Rattle.model.specs.declared.Description.{Description}
 use Rattle.model.specs.Tables.{Cell, cell, nocell}
@@ -9,21 +10,24 @@ use Rattle.model.specs.Run.{Request, run}
 use Rattle.model.proofs.Computed.{computed}
 use Rattle.model.proofs.Build.{insertAt, deleteAt, updateAt, uplevelAt, key, holding, last, Told, told, tells, Each}
 
--- "Labels 0, 1, 2, 3, 259. Relations have two rows a level. Relation 1: three columns, ranges 0 to 4." "relation 2 (key, reference to 1,
--- ranges 0 to 4)"
-abbrev pub five : Description
-five =
+-- five levels; "Relations have two rows a level. Relation 1: three columns", "relation 2 (key, reference to 1 ..)"
+abbrev pub described : List ℕ → List ℕ → List ℕ → Description
+described labels low high =
     record {
       levels = 5;
-      labels = 0 ∷ 1 ∷ 2 ∷ 3 ∷ 259 ∷ replicate 11 0;
+      labels = labels ++ replicate 11 0;
       relations = 2;
       columns = 0 ∷ 3 ∷ 2 ∷ replicate 6 0;
       rows = 0 ∷ 2 ∷ 2 ∷ replicate 6 0;
       foreign = 0 ∷ 0 ∷ 2 ∷ replicate 6 0;
       refers = 0 ∷ 0 ∷ 1 ∷ replicate 6 0;
-      low = replicate 81 0;
-      high = replicate 81 4;
+      low = low;
+      high = high;
     }
+
+-- "Labels 0, 1, 2, 3, 259", "ranges 0 to 4"
+abbrev pub five : Description
+five = described (0 ∷ 1 ∷ 2 ∷ 3 ∷ 259 ∷ []) (replicate 81 0) (replicate 81 4)
 
 -- one level of relation 1, and one of relation 2: a row and an empty one, or two empty ones
 abbrev pub one : Cell → Cell → Cell → List Cell

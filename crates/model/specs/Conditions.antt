@@ -21,13 +21,8 @@ pub record Condition : Type 0 where
   pub constant : ℕ
 
 unfoldable pub conditionAt : List ℕ → ℕ → Condition
-conditionAt conditions i =
-    record {
-      column = getD conditions (4 * i) 0;
-      mark = getD conditions (4 * i + 1) 0;
-      test = getD conditions (4 * i + 2) 0;
-      constant = getD conditions (4 * i + 3) 0;
-    }
+conditionAt q i =
+    record { column = getD q (4 * i) 0; mark = getD q (4 * i + 1) 0; test = getD q (4 * i + 2) 0; constant = getD q (4 * i + 3) 0 }
 
 unfoldable pub conditionCount : List ℕ → ℕ
 conditionCount conditions = length conditions / 4

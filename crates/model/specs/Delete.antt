@@ -10,7 +10,7 @@ use Rattle.model.specs.declared.Description.{Description}
 use Rattle.model.specs.declared.Fault.{Fault}
 use Rattle.model.specs.declared.Fault.the-variants as Faults
 use Rattle.model.specs.Description.{rowCount, foreignOf, refersOf}
-use Rattle.model.specs.Tables.{Row, Tables, nocell, norow, seek, at, State, rowsOf}
+use Rattle.model.specs.Tables.{Tables, nocell, norow, seek, at, State, rowsOf}
 use Rattle.model.specs.Conditions.{met}
 use Rattle.model.specs.Effect.{Rows, Effect, keep, only}
 

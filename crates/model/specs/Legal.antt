@@ -7,7 +7,7 @@ use mathlib.Core.Logic.{_≢_, _⊎_}
 use mathlib.Core.Bool.{true}
 use Rattle.model.specs.declared.Description.{Description}
 use Rattle.model.specs.Description.{over, rowCount, foreignOf, refersOf, inRange}
-use Rattle.model.specs.Tables.{Row, Tables, nocell, State, rowsOf}
+use Rattle.model.specs.Tables.{Tables, nocell, State, rowsOf}
 
 -- "Tables are legal when every non-empty row and cell satisfies:"
 pub record Legal (d : Description) (T : Tables) : Type 0 where

@@ -11,7 +11,7 @@ use Rattle.model.specs.declared.Description.{Description}
 use Rattle.model.specs.declared.Fault.{Fault}
 use Rattle.model.specs.declared.Fault.the-variants as Faults
 use Rattle.model.specs.Description.{isLevel, over, heightAt, columnCount, rowCount}
-use Rattle.model.specs.Tables.{Cell, Row, State}
+use Rattle.model.specs.Tables.{Cell, State}
 use Rattle.model.specs.Listed.{among, eachLevel, levelsOnce}
 use Rattle.model.specs.Conditions.{met}
 

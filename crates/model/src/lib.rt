@@ -1,6 +1,4 @@
 // The register's types: what is handed in, and what is answered.
-ghost use mathlib.Core.Path.{_≡_};
-ghost use Rattle.model.specs.Numbers.{faultNumber, answerNumber, countOf, verdictNumber};
 
 // What the tables are like. It is public, and may be damaged: a count may be larger than its array.
 // Relations and columns are numbered from 1, levels and rows from 0; what stands at place 0 of an array by relation is not read.
@@ -56,56 +54,10 @@ pub enum Fault {
     Short,
 }
 
-impl Fault {
-    // 01's number of the refusal.
-    pub fn number(self) -> u32
-        ensures { λ r. ⌜ r ≡ faultNumber self ⌝ }
-    {
-        match self {
-            Fault::Description => 1,
-            Fault::Length => 2,
-            Fault::Illegal => 3,
-            Fault::Malformed => 4,
-            Fault::Unseen => 5,
-            Fault::Range => 6,
-            Fault::Absent => 7,
-            Fault::Several => 8,
-            Fault::Taken => 9,
-            Fault::KeyClass => 10,
-            Fault::Reference => 11,
-            Fault::Referred => 12,
-            Fault::Full => 13,
-            Fault::Short => 14,
-        }
-    }
-}
-
 // What one call is answered.
 pub enum Answer {
     Done { count: u32 },
     Refused(Fault),
-}
-
-impl Answer {
-    // 0 for done, else the refusal's number.
-    pub fn number(self) -> u32
-        ensures { λ r. ⌜ r ≡ answerNumber self ⌝ }
-    {
-        match self {
-            Answer::Done { count: _ } => 0,
-            Answer::Refused(fault) => fault.number(),
-        }
-    }
-
-    // The rows that a statement counts, 0 for a refusal.
-    pub fn count(self) -> u32
-        ensures { λ r. ⌜ r ≡ countOf self ⌝ }
-    {
-        match self {
-            Answer::Done { count } => count,
-            Answer::Refused(_) => 0,
-        }
-    }
 }
 
 // What the judge of tables says.
@@ -114,18 +66,4 @@ pub enum Verdict {
     Description,
     Length,
     Illegal,
-}
-
-impl Verdict {
-    // 0 for legal, else the least of 1 to 3 that applies.
-    pub fn number(self) -> u32
-        ensures { λ r. ⌜ r ≡ verdictNumber self ⌝ }
-    {
-        match self {
-            Verdict::Legal => 0,
-            Verdict::Description => 1,
-            Verdict::Length => 2,
-            Verdict::Illegal => 3,
-        }
-    }
 }

@@ -1,6 +1,6 @@
 use mathlib.Core.Bool.{false}
 use mathlib.Core.Path.{_≡_, refl}
-use Prim.Native.Nat.{ℕ, _≤_, _-_, zero-le}
+use Prim.Native.Nat.{_≤_, _-_, zero-le}
 use native.Mathlib.Omega.{arith}
 use Rattle.level.specs.Order.{levelDominates, rowOf}
 use Rattle.level.proofs.Fill.{Filled, filled-none, filled-more, filled-all}

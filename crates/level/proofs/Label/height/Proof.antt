@@ -1,6 +1,6 @@
 use borrow.Author.Needs.{needs}
 use native.Mathlib.Omega.{arith}
-use lib.Count.{ones, ones-le}
+use lib.Count.{ones-le}
 use Prim.Native.Nat.{_%_}
 use Rattle.level.specs.Label.{heightOf, rankOf, compartmentsOf}
 use Rattle.level.proofs.Label.height.Statement.{statement}
