@@ -11,7 +11,6 @@ use Rattle.bounded.specs.Tests.{Reflects}
 use Rattle.bounded.proofs.Cases.{cases, order}
 use Rattle.bounded.proofs.Reflection.{is-true, of-true, bool-r, not-r, and-r, if-r, all-r, eqb-r, ltb-r, leb-r}
 use Rattle.model.specs.Description.{between, distinctBelow, over, labelOf, isRelation, ofRelation, columnCount, rowCount, foreignOf, refersOf, isColumn, lowOf, highOf, inRange, totalOf, labelsSound, foreignSound, relationSound, sound}
-use Rattle.model.specs.Run.{relation}
 use Rattle.level.specs.Laws.{Distinct, LevelLaws}
 use Rattle.level.proofs.Levels.{level-laws}
 use Rattle.model.specs.declared.Description.{Description}

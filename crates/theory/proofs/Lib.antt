@@ -1,1 +1,10 @@
 pub mod Described
+pub mod Fine
+pub mod Seek
+pub mod Reach
+pub mod Apt
+pub mod Above
+pub mod Lift
+pub mod Put
+pub mod Commute
+pub mod Order
