@@ -8,3 +8,15 @@ pub mod Lift
 pub mod Put
 pub mod Commute
 pub mod Order
+pub mod Legality
+pub mod Judged
+pub mod Listed
+pub mod Update
+pub mod Delete
+pub mod Insert
+pub mod Uplevel
+pub mod Fits
+pub mod Seen
+pub mod State
+pub mod Queues
+pub mod Runs
