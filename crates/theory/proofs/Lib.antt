@@ -17,6 +17,8 @@ pub mod Insert
 pub mod Uplevel
 pub mod Fits
 pub mod Seen
+pub mod Accepted
 pub mod State
 pub mod Queues
 pub mod Runs
+pub mod Steps

@@ -1,19 +1,17 @@
--- Two queues whose statements commute pairwise on legal states and do not change each other's answers: every merging of the two leaves the
--- same state and gives each statement the same answer.
+-- Two queues whose requests commute pairwise on legal states and do not change each other's replies: every merging of the two leaves the
+-- same state and gives each request the same reply.
 -- Assumes nothing.
 use mathlib.Core.List.{List, [], _∷_}
 use mathlib.Core.Path.{_≡_, refl, sym, ap, ap₂, _∙_}
-use Rattle.model.specs.Judge.{legal}
-use Rattle.model.specs.Legal.{Legal}
 
 -- a merging of two lists: which of them goes next
 pub data Merge {A : Type 0} : List A → List A → Type 0 where
-  done : Merge [] []
-  left : {p : A} {ps qs : List A} → Merge ps qs → Merge (p ∷ ps) qs
-  right : {q : A} {ps qs : List A} → Merge ps qs → Merge ps (q ∷ qs)
+  finished : Merge [] []
+  from-left : {p : A} {ps qs : List A} → Merge ps qs → Merge (p ∷ ps) qs
+  from-right : {q : A} {ps qs : List A} → Merge ps qs → Merge ps (q ∷ qs)
 
 pub data Each {A : Type 0} (P : A → Type 0) : List A → Type 0 where
-  none : Each P []
+  no-more : Each P []
   more : {x : A} {xs : List A} → P x → Each P xs → Each P (x ∷ xs)
 
 -- a member of a list
@@ -22,87 +20,87 @@ pub data In {A : Type 0} (x : A) : List A → Type 0 where
   later : {y : A} {xs : List A} → In x xs → In x (y ∷ xs)
 
 each-of : {A : Type 0} {P : A → Type 0} (xs : List A) → ((x : A) → In x xs → P x) → Each P xs
-each-of [] f = none
+each-of [] f = no-more
 each-of (x ∷ xs) f = more (f x first) (each-of xs (λ y i. f y (later i)))
 
 each-in : {A : Type 0} {P : A → Type 0} {xs : List A} {x : A} → Each P xs → In x xs → P x
 each-in (more p e) first = p
 each-in (more p e) (later i) = each-in e i
 
-module _ {S Stmt Ans : Type 0} (step : Stmt → S → S) (answer : Stmt → S → Ans) where
+module _ {S Request Reply : Type 0} (step : Request → S → S) (reply : Request → S → Reply) where
   -- a queue alone
-  unfoldable pub after : List Stmt → S → S
-  after [] T = T
-  after (p ∷ ps) T = after ps (step p T)
+  unfoldable pub afterAll : List Request → S → S
+  afterAll [] T = T
+  afterAll (p ∷ ps) T = afterAll ps (step p T)
 
-  unfoldable pub answers : List Stmt → S → List Ans
-  answers [] T = []
-  answers (p ∷ ps) T = answer p T ∷ answers ps (step p T)
+  unfoldable pub replies : List Request → S → List Reply
+  replies [] T = []
+  replies (p ∷ ps) T = reply p T ∷ replies ps (step p T)
 
-  -- a merging: what it leaves, and what each queue is answered
-  unfoldable pub final : {ps qs : List Stmt} → Merge ps qs → S → S
-  final done T = T
-  final (left {p = p} m) T = final m (step p T)
-  final (right {q = q} m) T = final m (step q T)
+  -- a merging: what it leaves, and what each queue hears
+  unfoldable pub final : {ps qs : List Request} → Merge ps qs → S → S
+  final finished T = T
+  final (from-left {p = p} m) T = final m (step p T)
+  final (from-right {q = q} m) T = final m (step q T)
 
-  unfoldable pub lefts : {ps qs : List Stmt} → Merge ps qs → S → List Ans
-  lefts done T = []
-  lefts (left {p = p} m) T = answer p T ∷ lefts m (step p T)
-  lefts (right {q = q} m) T = lefts m (step q T)
+  unfoldable pub lefts : {ps qs : List Request} → Merge ps qs → S → List Reply
+  lefts finished T = []
+  lefts (from-left {p = p} m) T = reply p T ∷ lefts m (step p T)
+  lefts (from-right {q = q} m) T = lefts m (step q T)
 
-  unfoldable pub rights : {ps qs : List Stmt} → Merge ps qs → S → List Ans
-  rights done T = []
-  rights (left {p = p} m) T = rights m (step p T)
-  rights (right {q = q} m) T = answer q T ∷ rights m (step q T)
+  unfoldable pub rights : {ps qs : List Request} → Merge ps qs → S → List Reply
+  rights finished T = []
+  rights (from-left {p = p} m) T = rights m (step p T)
+  rights (from-right {q = q} m) T = reply q T ∷ rights m (step q T)
 
-  pub record SameRun {ps qs : List Stmt} (m m′ : Merge ps qs) (T : S) : Type 0 where
+  pub record SameRun {ps qs : List Request} (m m′ : Merge ps qs) (T : S) : Type 0 where
     pub state : final m T ≡ final m′ T
     pub first : lefts m T ≡ lefts m′ T
     pub second : rights m T ≡ rights m′ T
 
-  module _ (Legal : S → Type 0) (P Q : Stmt → Type 0)
-      (legal : (s : Stmt) (T : S) → Legal T → Legal (step s T))
-      (commute : (s t : Stmt) (T : S) → P s → Q t → Legal T → step t (step s T) ≡ step s (step t T))
-      (quiet-p : (s t : Stmt) (T : S) → P s → Q t → Legal T → answer s (step t T) ≡ answer s T)
-      (quiet-q : (s t : Stmt) (T : S) → P s → Q t → Legal T → answer t (step s T) ≡ answer t T) where
-    -- one statement of the second queue goes past the first queue
-    past : (ps : List Stmt) (q : Stmt) (T : S) → Each P ps → Q q → Legal T → after ps (step q T) ≡ step q (after ps T)
-    unfolding after
+  module _ (Legal : S → Type 0) (P Q : Request → Type 0)
+      (legal : (s : Request) (T : S) → Legal T → Legal (step s T))
+      (commute : (s t : Request) (T : S) → P s → Q t → Legal T → step t (step s T) ≡ step s (step t T))
+      (quiet-p : (s t : Request) (T : S) → P s → Q t → Legal T → reply s (step t T) ≡ reply s T)
+      (quiet-q : (s t : Request) (T : S) → P s → Q t → Legal T → reply t (step s T) ≡ reply t T) where
+    -- a request of the second queue goes past the first queue
+    past : (ps : List Request) (q : Request) (T : S) → Each P ps → Q q → Legal T → afterAll ps (step q T) ≡ step q (afterAll ps T)
+    unfolding afterAll
     past [] q T e h g = refl
-    past (p ∷ ps) q T (more k e) h g = ap (after ps) (sym (commute p q T k h g)) ∙ past ps q (step p T) e h (legal p T g)
+    past (p ∷ ps) q T (more k e) h g = ap (afterAll ps) (sym (commute p q T k h g)) ∙ past ps q (step p T) e h (legal p T g)
 
-    past-answers : (ps : List Stmt) (q : Stmt) (T : S) → Each P ps → Q q → Legal T → answers ps (step q T) ≡ answers ps T
-    unfolding answers
-    past-answers [] q T e h g = refl
-    past-answers (p ∷ ps) q T (more k e) h g =
-        ap₂ (λ x xs. x ∷ xs) (quiet-p p q T k h g) (ap (answers ps) (sym (commute p q T k h g)) ∙ past-answers ps q (step p T) e h (legal p T g))
+    past-replies : (ps : List Request) (q : Request) (T : S) → Each P ps → Q q → Legal T → replies ps (step q T) ≡ replies ps T
+    unfolding replies
+    past-replies [] q T e h g = refl
+    past-replies (p ∷ ps) q T (more k e) h g =
+        ap₂ (λ x xs. x ∷ xs) (quiet-p p q T k h g) (ap (replies ps) (sym (commute p q T k h g)) ∙ past-replies ps q (step p T) e h (legal p T g))
 
-    -- and a statement of the first past the second
-    other-answers : (p : Stmt) (qs : List Stmt) (T : S) → P p → Each Q qs → Legal T → answers qs (step p T) ≡ answers qs T
-    unfolding answers
-    other-answers p [] T h e g = refl
-    other-answers p (q ∷ qs) T h (more k e) g =
-        ap₂ (λ x xs. x ∷ xs) (quiet-q p q T h k g) (ap (answers qs) (commute p q T h k g) ∙ other-answers p qs (step q T) h e (legal q T g))
+    -- and one of the first past the second
+    other-replies : (p : Request) (qs : List Request) (T : S) → P p → Each Q qs → Legal T → replies qs (step p T) ≡ replies qs T
+    unfolding replies
+    other-replies p [] T h e g = refl
+    other-replies p (q ∷ qs) T h (more k e) g =
+        ap₂ (λ x xs. x ∷ xs) (quiet-q p q T h k g) (ap (replies qs) (commute p q T h k g) ∙ other-replies p qs (step q T) h e (legal q T g))
 
-    final-is : {ps qs : List Stmt} (m : Merge ps qs) (T : S) → Each P ps → Each Q qs → Legal T → final m T ≡ after qs (after ps T)
-    unfolding final after
-    final-is done T e f g = refl
-    final-is (left {p = p} m) T (more h e) f g = final-is m (step p T) e f (legal p T g)
-    final-is (right {q = q} {ps = ps} {qs = qs} m) T e (more h f) g = final-is m (step q T) e f (legal q T g) ∙ ap (after qs) (past ps q T e h g)
+    final-is : {ps qs : List Request} (m : Merge ps qs) (T : S) → Each P ps → Each Q qs → Legal T → final m T ≡ afterAll qs (afterAll ps T)
+    unfolding final afterAll
+    final-is finished T e f g = refl
+    final-is (from-left {p = p} m) T (more h e) f g = final-is m (step p T) e f (legal p T g)
+    final-is (from-right {q = q} {ps = ps} {qs = qs} m) T e (more h f) g = final-is m (step q T) e f (legal q T g) ∙ ap (afterAll qs) (past ps q T e h g)
 
-    lefts-is : {ps qs : List Stmt} (m : Merge ps qs) (T : S) → Each P ps → Each Q qs → Legal T → lefts m T ≡ answers ps T
-    unfolding lefts answers
-    lefts-is done T e f g = refl
-    lefts-is (left {p = p} m) T (more h e) f g = ap (λ xs. answer p T ∷ xs) (lefts-is m (step p T) e f (legal p T g))
-    lefts-is (right {q = q} {ps = ps} m) T e (more h f) g = lefts-is m (step q T) e f (legal q T g) ∙ past-answers ps q T e h g
+    lefts-is : {ps qs : List Request} (m : Merge ps qs) (T : S) → Each P ps → Each Q qs → Legal T → lefts m T ≡ replies ps T
+    unfolding lefts replies
+    lefts-is finished T e f g = refl
+    lefts-is (from-left {p = p} m) T (more h e) f g = ap (λ xs. reply p T ∷ xs) (lefts-is m (step p T) e f (legal p T g))
+    lefts-is (from-right {q = q} {ps = ps} m) T e (more h f) g = lefts-is m (step q T) e f (legal q T g) ∙ past-replies ps q T e h g
 
-    rights-is : {ps qs : List Stmt} (m : Merge ps qs) (T : S) → Each P ps → Each Q qs → Legal T → rights m T ≡ answers qs T
-    unfolding rights answers
-    rights-is done T e f g = refl
-    rights-is (left {p = p} {qs = qs} m) T (more h e) f g = rights-is m (step p T) e f (legal p T g) ∙ other-answers p qs T h f g
-    rights-is (right {q = q} m) T e (more h f) g = ap (λ xs. answer q T ∷ xs) (rights-is m (step q T) e f (legal q T g))
+    rights-is : {ps qs : List Request} (m : Merge ps qs) (T : S) → Each P ps → Each Q qs → Legal T → rights m T ≡ replies qs T
+    unfolding rights replies
+    rights-is finished T e f g = refl
+    rights-is (from-left {p = p} {qs = qs} m) T (more h e) f g = rights-is m (step p T) e f (legal p T g) ∙ other-replies p qs T h f g
+    rights-is (from-right {q = q} m) T e (more h f) g = ap (λ xs. reply q T ∷ xs) (rights-is m (step q T) e f (legal q T g))
 
-    pub any-merging : {ps qs : List Stmt} (m m′ : Merge ps qs) (T : S) → Each P ps → Each Q qs → Legal T → SameRun m m′ T
+    pub any-merging : {ps qs : List Request} (m m′ : Merge ps qs) (T : S) → Each P ps → Each Q qs → Legal T → SameRun m m′ T
     any-merging m m′ T e f g =
         record {
           state = final-is m T e f g ∙ sym (final-is m′ T e f g);
@@ -110,16 +108,16 @@ module _ {S Stmt Ans : Type 0} (step : Stmt → S → S) (answer : Stmt → S �
           second = rights-is m T e f g ∙ sym (rights-is m′ T e f g);
         }
 
-  -- two queues of which each pair of statements, one of either, commutes on legal states and leaves the other's answer
-  pub queues-merge : (Legal : S → Type 0) (Apart : Stmt → Stmt → Type 0)
-      → ((s : Stmt) (T : S) → Legal T → Legal (step s T))
-      → ((s t : Stmt) (T : S) → Apart s t → Legal T → step t (step s T) ≡ step s (step t T))
-      → ((s t : Stmt) (T : S) → Apart s t → Legal T → answer s (step t T) ≡ answer s T)
-      → ((s t : Stmt) (T : S) → Apart s t → Legal T → answer t (step s T) ≡ answer t T)
-      → {ps qs : List Stmt} (m m′ : Merge ps qs) (T : S) → Each (λ s. Each (Apart s) qs) ps → Legal T → SameRun m m′ T
+  -- two queues of which each pair of requests, one of either, commutes on legal states and leaves the other's reply
+  pub queues-merge : (Legal : S → Type 0) (Apart : Request → Request → Type 0)
+      → ((s : Request) (T : S) → Legal T → Legal (step s T))
+      → ((s t : Request) (T : S) → Apart s t → Legal T → step t (step s T) ≡ step s (step t T))
+      → ((s t : Request) (T : S) → Apart s t → Legal T → reply s (step t T) ≡ reply s T)
+      → ((s t : Request) (T : S) → Apart s t → Legal T → reply t (step s T) ≡ reply t T)
+      → {ps qs : List Request} (m m′ : Merge ps qs) (T : S) → Each (λ s. Each (Apart s) qs) ps → Legal T → SameRun m m′ T
   queues-merge Legal Apart legal commute quiet-p quiet-q {ps} {qs} m m′ T a g =
       any-merging Legal (λ s. In s ps) (λ t. In t qs) legal (λ s t T i j. commute s t T (apart i j)) (λ s t T i j. quiet-p s t T (apart i j)) (λ s t T i j. quiet-q s t T (apart i j))
       m m′ T (each-of ps (λ s i. i)) (each-of qs (λ t j. j)) g
     where
-      apart : {s t : Stmt} → In s ps → In t qs → Apart s t
+      apart : {s t : Request} → In s ps → In t qs → Apart s t
       apart i j = each-in (each-in a i) j

@@ -5,10 +5,6 @@ use Prim.Native.Nat.{ℕ}
 use mathlib.Core.Bool.{Bool, true}
 use mathlib.Core.List.{List}
 use mathlib.Core.Path.{_≡_}
-use Rattle.model.specs.Legal.{Legal}
-use Rattle.model.specs.Run.{Request, subject, Reply}
-use Rattle.model.specs.Tables.{Level}
-use Rattle.theory.proofs.State.{step, reply}
 use Rattle.theory.proofs.Queues.{Merge, Each, SameRun, queues-merge}
 
 -- c sees the same

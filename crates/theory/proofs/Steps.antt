@@ -1,0 +1,203 @@
+-- The theorems about one call on legal tables: they stay legal; a level that does not dominate the subject's keeps what it holds; what is
+-- heard, and what is done to the levels that a level sees, depend on what is seen; requests from levels that do not dominate each other
+-- commute. So any merging of two queues at such levels is heard alike and leaves the same tables.
+-- Assumes nothing.
+use Prim.Native.Nat.{ℕ, _<_}
+use mathlib.Core.Bool.{true, false}
+use mathlib.Core.List.{List}
+use mathlib.Core.Logic.{_⊎_, inl, inr}
+use mathlib.Core.Option.{Option, none, some}
+use mathlib.Core.Path.{_≡_, refl, sym, ap, _∙_, fun-ext}
+use lib.Dec.{ltb}
+use Rattle.bounded.specs.Tests.{if_then_else_}
+use Rattle.bounded.proofs.Cases.{and-left, and-right}
+use Rattle.bounded.proofs.Reflection.{is-false, of-true, decide, bool-r, ltb-r}
+use Rattle.model.specs.Description.{isLevel, over, isRelation, rowCount}
+use Rattle.model.specs.Effect.{Rows, Effect, reach, applied}
+use Rattle.model.specs.Judge.{legal}
+use Rattle.model.specs.Legal.{LegalState}
+use Rattle.model.specs.Run.{Request, subject, relation, formedAs, formed, further, firstFault, tests, effectAs, left, after}
+use Rattle.model.specs.Tables.{Row, Level, State, Tables, rowsOf, seen, seek, at}
+use Rattle.model.specs.declared.Description.{Description}
+use Rattle.model.specs.declared.Fault.{Fault}
+use Rattle.theory.specs.Laws.{Laws}
+use Rattle.theory.proofs.Seek.{at-seek}
+use Rattle.theory.proofs.Reach.{carry-own, carry-above, carry-aside, Side, at-c, over-c, off-c, side}
+use Rattle.theory.proofs.Lift.{Tidy, Fits, stays-tidy}
+use Rattle.theory.proofs.Order.{reach-local, effects-commute, unseen-row}
+use Rattle.theory.proofs.Legality.{legal-tidy, tidy-legal}
+use Rattle.theory.proofs.Judged.{legal-judged}
+use Rattle.theory.proofs.Accepted.{passed, accepted}
+use Rattle.theory.proofs.State.{fault, acts, step, reply}
+use Rattle.theory.proofs.Queues.{Merge, Each, SameRun}
+use Rattle.theory.proofs.Runs.{Low, Apart, StepLaws}
+use Rattle.model.specs.declared.Fault.the-variants as Faults
+use Rattle.theory.proofs.Runs as Runs
+
+abbrev stored : Tables → State
+stored T l = record { rows = λ r i. T r l i }
+
+-- the state T after what a request does that is worked out from S
+abbrev next : Description → Request → State → State → State
+next D q S T = left D (subject q) (effectAs D q (q .statement .what) (seen D (subject q) S)) T
+
+module _ (D : Description) (L : Laws D) where
+  -- what a request does, if it is done: an effect that fits, or nothing
+  data Went (q : Request) (S : State) : Type 0 where
+    went : (E : Effect) → ((T : State) → next D q S T ≡ stored (applied D (subject q) E (rowsOf T))) → Fits D (rowsOf S) (subject q) E → Went q S
+    stood : ((T : State) → next D q S T ≡ T) → Went q S
+
+  go-on : (q : Request) (S : State) → Tidy D (rowsOf S) → firstFault (tests D q S) ≡ none → Went q S
+  unfolding tests formed isLevel left
+  go-on q S t e = go (effectAs D q (q .statement .what) (seen D (subject q) S)) refl
+    where
+      p : (formed D q ≡ true) × (firstFault (further D q (q .statement .what) (seen D (subject q) S)) ≡ none)
+      p = passed (formed D q, Faults.Malformed) (further D q (q .statement .what) (seen D (subject q) S)) e
+
+      level : subject q < D .levels
+      level = of-true (ltb-r (subject q) (D .levels)) (and-left (ltb (subject q) (D .levels)) _ (p .0))
+
+      well : formedAs D (relation q) (q .statement .what) (q .list) (q .conditions) ≡ true
+      well = and-right (isRelation D (relation q)) _ (and-right (ltb (subject q) (D .levels)) _ (p .0))
+
+      go : (o : Option Effect) → effectAs D q (q .statement .what) (seen D (subject q) S) ≡ o → Went q S
+      go (some E) i = went E (λ T. rw (i, left)) (accepted D L S t q (q .statement .what) E level well (p .1) i)
+      go none i = stood (λ T. rw (i, left))
+
+  -- a request is done, or leaves the state
+  data Step (q : Request) (S : State) : Type 0 where
+    act : acts D q S ≡ true → step D q S ≡ next D q S S → Went q S → Step q S
+    rest : acts D q S ≡ false → step D q S ≡ S → Step q S
+
+  stepped : (q : Request) (S : State) → Tidy D (rowsOf S) → Step q S
+  unfolding step acts fault after
+  stepped q S t = go (fault D q S) refl
+    where
+      go : (o : Option Fault) → fault D q S ≡ o → Step q S
+      go none e = act (rw (e, acts)) (rw (e, acts)) (go-on q S t (passed (legal D S, Faults.Illegal) (tests D q S) e .1))
+      go (some f) e = rest (rw (e, acts)) (rw (e, acts))
+
+  step-tidy : (q : Request) (S : State) → Tidy D (rowsOf S) → Tidy D (rowsOf (step D q S))
+  step-tidy q S t = go (stepped q S t)
+    where
+      by : Went q S → Tidy D (rowsOf (next D q S S))
+      by (went E e f) = rw (e S) (stays-tidy D L (rowsOf S) (subject q) E t f)
+      by (stood e) = rw (e S) t
+
+      go : Step q S → Tidy D (rowsOf (step D q S))
+      go (act _ e w) = rw e (by w)
+      go (rest _ e) = rw e t
+
+  -- ---- what a level sees
+
+  next-unseen : (q : Request) (S : State) → Went q S → (c : ℕ) → (over D c (subject q) ≡ true → ⊥) → (T : State) → Low (over D) c (next D q S T) T
+  next-unseen q S (went E e f) c n T l h = ap (λ (K : State). K l) (e T) ∙ ap (λ (B : Rows). record { rows = B }) (fun-ext (λ r. fun-ext (λ i. unseen-row D L (rowsOf T) (subject q) c E n r l i h)))
+  next-unseen q S (stood e) c n T l h = ap (λ (K : State). K l) (e T)
+
+  unseen : (c : ℕ) (q : Request) (S : State) → (over D c (subject q) ≡ true → ⊥) → Tidy D (rowsOf S) → Low (over D) c (step D q S) S
+  unseen c q S n t = go (stepped q S t)
+    where
+      go : Step q S → Low (over D) c (step D q S) S
+      go (act _ e w) l h = ap (λ (K : State). K l) e ∙ next-unseen q S w c n S l h
+      go (rest _ e) l h = ap (λ (K : State). K l) e
+
+  low-seen : (c : ℕ) (S U : State) → Low (over D) c S U → seen D c S ≡ seen D c U
+  unfolding seen
+  low-seen c S U h = fun-ext (λ l. go l (decide (bool-r (over D c l))))
+    where
+      go : (l : ℕ) → (over D c l ≡ true) ⊎ (over D c l ≡ true → ⊥) → seen D c S l ≡ seen D c U l
+      go l (inl x) = rw (x, h l x)
+      go l (inr n) = rw (is-false (bool-r (over D c l)) n)
+
+  module _ (q : Request) (S U : State) (t : Tidy D (rowsOf S)) (u : Tidy D (rowsOf U)) (h : Low (over D) (subject q) S U) where
+    same-fault : fault D q S ≡ fault D q U
+    unfolding fault tests
+    same-fault = rw (legal-judged D L S t, legal-judged D L U u, low-seen (subject q) S U h)
+
+    answers : reply D q S ≡ reply D q U
+    unfolding reply
+    answers = go (fault D q S) refl
+      where
+        go : (o : Option Fault) → fault D q S ≡ o → reply D q S ≡ reply D q U
+        go none e = rw (e, sym same-fault ∙ e, reply, low-seen (subject q) S U h)
+        go (some f) e = rw (e, sym same-fault ∙ e, reply)
+
+    step-same : step D q S ≡ (if acts D q U then next D q U S else S)
+    unfolding step acts after
+    step-same = rw (same-fault, acts, low-seen (subject q) S U h)
+
+  -- a request does the same to what c sees of two states that c sees alike
+  low-next : (c : ℕ) (q : Request) (S U : State) → Went q U → over D c (subject q) ≡ true → Low (over D) c S U → Low (over D) c (next D q U S) (next D q U U)
+  unfolding applied
+  low-next c q S U (stood e) d h l x = ap (λ (K : State). K l) (e S) ∙ h l x ∙ sym (ap (λ (K : State). K l) (e U))
+  low-next c q S U (went E e f) d h l x =
+      ap (λ (K : State). K l) (e S) ∙ ap (λ (B : Rows). record { rows = B }) (fun-ext (λ r. fun-ext (λ i. go r i (side D a l)))) ∙ sym (ap (λ (K : State). K l) (e U))
+    where
+      a : ℕ
+      a = subject q
+
+      row : (r l : ℕ) → over D c l ≡ true → rowsOf S r l ≡ rowsOf U r l
+      row r l g = ap (λ (K : Level). K .rows r) (h l g)
+
+      low-at : (r l v : ℕ) → over D c l ≡ true → at D (rowsOf S) r l v ≡ at D (rowsOf U) r l v
+      low-at r l v g = at-seek D (rowsOf S) r l v ∙ ap (λ (B : ℕ → Row). seek (rowCount D r) B v) (row r l g) ∙ sym (at-seek D (rowsOf U) r l v)
+
+      go : (r i : ℕ) → Side D a l → applied D a E (rowsOf S) r l i ≡ applied D a E (rowsOf U) r l i
+      go r i (at-c p) = rw p (carry-own D (at D (rowsOf S)) a (E .own) (E .above) (rowsOf S) r i ∙ sym (carry-own D (at D (rowsOf U)) a (E .own) (E .above) (rowsOf U) r i))
+      go r i (off-c n m) =
+          carry-aside D (at D (rowsOf S)) a (E .own) (E .above) (rowsOf S) r l i n m ∙ ap (λ (B : ℕ → Row). B i) (row r l x)
+          ∙ sym (carry-aside D (at D (rowsOf U)) a (E .own) (E .above) (rowsOf U) r l i n m)
+      go r i (over-c n m) =
+          carry-above D (at D (rowsOf S)) a (E .own) (E .above) (rowsOf S) r l i n m
+          ∙ fun-ext (reach-local D (at D (rowsOf S)) (at D (rowsOf U)) a l (λ r v. low-at r a v d) (λ r v. low-at r l v x) (E .above) r (rowsOf S r l i))
+          ∙ ap (reach D (at D (rowsOf U)) a (E .above) r l) (ap (λ (B : ℕ → Row). B i) (row r l x))
+          ∙ sym (carry-above D (at D (rowsOf U)) a (E .own) (E .above) (rowsOf U) r l i n m)
+
+  steps : (c : ℕ) (q : Request) (S U : State) → Tidy D (rowsOf S) → Tidy D (rowsOf U) → over D c (subject q) ≡ true → Low (over D) c S U → Low (over D) c (step D q S) (step D q U)
+  steps c q S U t u d h l x = ap (λ (K : State). K l) (step-same q S U t u (λ l x. h l (L .transitive c (subject q) l d x))) ∙ go (stepped q U u)
+    where
+      go : Step q U → (if acts D q U then next D q U S else S) l ≡ step D q U l
+      go (act a e w) = rw a (low-next c q S U w d h l x ∙ sym (ap (λ (K : State). K l) e))
+      go (rest a e) = rw a (h l x ∙ sym (ap (λ (K : State). K l) e))
+
+  -- ---- two requests
+
+  commutes : (q p : Request) (S : State) → Tidy D (rowsOf S) → Apart (over D) subject q p → step D p (step D q S) ≡ step D q (step D p S)
+  commutes q p S t a = go (stepped q S t) (stepped p S t)
+    where
+      p-second : step D p (step D q S) ≡ (if acts D p S then next D p S (step D q S) else step D q S)
+      p-second = step-same p (step D q S) S (step-tidy q S t) t (unseen (subject p) q S (a .not-under) t)
+
+      q-second : step D q (step D p S) ≡ (if acts D q S then next D q S (step D p S) else step D p S)
+      q-second = step-same q (step D p S) S (step-tidy p S t) t (unseen (subject q) p S (a .not-over) t)
+
+      both : Went q S → Went p S → next D p S (next D q S S) ≡ next D q S (next D p S S)
+      both (stood e) _ = ap (next D p S) (e S) ∙ sym (e (next D p S S))
+      both (went _ _ _) (stood e) = e (next D q S S) ∙ sym (ap (next D q S) (e S))
+      both (went E e f) (went E′ e′ f′) =
+          ap (next D p S) (e S) ∙ e′ (stored (applied D (subject q) E (rowsOf S)))
+          ∙ ap stored (effects-commute D L (rowsOf S) t (subject q) (subject p) E E′ f f′ (a .not-over) (a .not-under))
+          ∙ sym (ap (next D q S) (e′ S) ∙ e (stored (applied D (subject p) E′ (rowsOf S))))
+
+      go : Step q S → Step p S → step D p (step D q S) ≡ step D q (step D p S)
+      go (rest x e) _ = ap (step D p) e ∙ sym (q-second ∙ rw x)
+      go (act _ _ _) (rest x e) = p-second ∙ rw x (sym (ap (step D q) e))
+      go (act x e w) (act x′ e′ w′) = p-second ∙ rw x′ (ap (next D p S) e ∙ both w w′ ∙ sym (q-second ∙ rw x (ap (next D q S) e′)))
+
+  -- ---- the theorems
+
+  pub step-legal : (q : Request) (S : State) → LegalState D S → LegalState D (step D q S)
+  step-legal q S g = tidy-legal D L (rowsOf (step D q S)) (step-tidy q S (legal-tidy D L (rowsOf S) g))
+
+  pub step-laws : StepLaws (over D) subject (step D) (reply D) (LegalState D)
+  step-laws = record {
+    step-legal = step-legal;
+    unseen = λ c q S n g. unseen c q S n (legal-tidy D L (rowsOf S) g);
+    answers = λ q S U g k h. answers q S U (legal-tidy D L (rowsOf S) g) (legal-tidy D L (rowsOf U) k) h;
+    steps = λ c q S U g k d h. steps c q S U (legal-tidy D L (rowsOf S) g) (legal-tidy D L (rowsOf U) k) d h;
+    commutes = λ q p S g a. commutes q p S (legal-tidy D L (rowsOf S) g) a;
+  }
+
+  -- two queues, no level of one dominating a level of the other, in any merging
+  pub queues : {qs ps : List Request} (m m′ : Merge qs ps) (S : State) → Each (λ q. Each (Apart (over D) subject q) ps) qs → LegalState D S → SameRun (step D) (reply D) m m′ S
+  queues m m′ S a g = Runs.queues (over D) subject (step D) (reply D) (LegalState D) step-laws m m′ S a g
