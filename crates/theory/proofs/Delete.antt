@@ -15,8 +15,7 @@ use Rattle.model.specs.Tables.{Cell, cell, nocell, norow, Tables, lends}
 use Rattle.model.specs.declared.Description.{Description}
 use Rattle.theory.specs.Laws.{Laws}
 use Rattle.theory.proofs.Fine.{same-r, Held, Named, Absent, Keyed, Fine, lends-no, value-of, nocell-class, no-level, key-is, lends-class}
-use Rattle.theory.proofs.Seek.{there}
-use Rattle.theory.proofs.Reach.{settle, own}
+use Rattle.theory.proofs.Reach.{settle}
 use Rattle.theory.proofs.Apt.{Owns, Names, Apt}
 use Rattle.theory.proofs.Update.{keep≢take, only≢take, met-used}
 

@@ -16,7 +16,7 @@ use Rattle.level.proofs.Levels.{level-laws}
 use Rattle.model.specs.declared.Description.{Description}
 use Rattle.theory.specs.Laws.{Laws}
 
-pub between-r : (low high n : ℕ) → Reflects ((low ≤ n) × (n ≤ high)) (between low high n)
+between-r : (low high n : ℕ) → Reflects ((low ≤ n) × (n ≤ high)) (between low high n)
 unfolding between
 between-r low high n = and-r (leb-r low n) (leb-r n high)
 

@@ -20,7 +20,7 @@ use Rattle.model.specs.Insert.{newRow, inserted}
 use Rattle.model.specs.Listed.{listed}
 use Rattle.model.specs.Tables.{Cell, nocell, same, Row, norow, emptyRow, Tables, place, seek, at, lends}
 use Rattle.model.specs.Update.{setIn, updated}
-use Rattle.model.specs.Uplevel.{based, raised, placed}
+use Rattle.model.specs.Uplevel.{raised, placed}
 use Rattle.model.specs.declared.Description.{Description}
 use Rattle.theory.specs.Laws.{Laws}
 use Rattle.theory.proofs.Described.{column-r, row-relation}
@@ -28,7 +28,6 @@ use Rattle.theory.proofs.Fine.{same-r, Absent, Keyed, value-of, nocell-
 use Rattle.theory.proofs.Seek.{Sought, there, nowhere, sought, Neat, seek-is, place-is, neat-map, seek-map, at-seek}
 use Rattle.theory.proofs.Lift.{Tidy, Fits}
 use Rattle.theory.proofs.Put.{put-neat, seek-put}
-use Rattle.theory.proofs.Uplevel.{apt}
 use Rattle.theory.proofs.Update as Update
 use Rattle.theory.proofs.Insert as Insert
 use Rattle.theory.proofs.Uplevel as Uplevel

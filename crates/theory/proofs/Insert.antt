@@ -8,7 +8,6 @@ use mathlib.Core.Option.{Option, none, some}
 use mathlib.Core.Path.{_≡_, refl, sym, _∙_}
 use lib.Dec.{eqb}
 use Rattle.bounded.specs.Tests.{if_then_else_}
-use Rattle.bounded.proofs.First.{absent}
 use Rattle.bounded.proofs.Reflection.{is-true, is-false, decide, and-r, eqb-r}
 use Rattle.model.specs.Description.{foreignOf, refersOf, inRange}
 use Rattle.model.specs.Effect.{Rows, keep, Above}
@@ -18,8 +17,7 @@ use Rattle.model.specs.Tables.{cell, nocell, Tables, ownNull, lends}
 use Rattle.model.specs.declared.Description.{Description}
 use Rattle.theory.specs.Laws.{Laws}
 use Rattle.theory.proofs.Fine.{Held, Named, Absent, Keyed, Fine, lends-no, value-of, class-of, nocell-value, nocell-class, no-level, key-is}
-use Rattle.theory.proofs.Seek.{there}
-use Rattle.theory.proofs.Reach.{settle, settled, own-null, own}
+use Rattle.theory.proofs.Reach.{settle, own-null}
 use Rattle.theory.proofs.Apt.{Owns, Names, Apt}
 use Rattle.theory.proofs.Update.{keep≢take}
 

@@ -34,9 +34,9 @@ unfolding inside isLevel
 inside-r D r l i k =
     reflects-as
     (λ h.
-        let c = of-true (column-r D r k) (h .0) in
-        let s = of-true (relation-r D r) (column-relation D r k (h .0)) in
-        record { relation = s .0; last = s .1; column = c .0; width = c .1; level = h .1 .0; row = h .1 .1 })
+    let c = of-true (column-r D r k) (h .0) in
+    let s = of-true (relation-r D r) (column-relation D r k (h .0)) in
+    record { relation = s .0; last = s .1; column = c .0; width = c .1; level = h .1 .0; row = h .1 .1 })
     (λ x. (is-true (column-r D r k) (x .column, x .width), (x .level, x .row)))
     (and-r (bool-r (isColumn D r k)) (and-r (ltb-r l (D .levels)) (ltb-r i (rowCount D r))))
 
@@ -119,7 +119,7 @@ module _ (D : Description) (L : Laws D) (T : Tables) (f : Framed D T) (j : Judge
       go (inl a) (inl b) (inl c) (inl n) =
           inr (record { some = n; first = j r a l b i c .0 n .0; cells = columns (λ k z. inl z) (j r a l b i c .0 n .1 .0); reference = j r a l b i c .0 n .1 .1 })
 
-  pub judged-tidy : Tidy D T
+  judged-tidy : Tidy D T
   judged-tidy = record { neat = neat; outside = λ r l i h k. off D T f r l i k (λ x. not-le-of-lt (x .row) h); fine = record { keyed = λ r l v. keyed r l v (found r l v); cells = λ r l v k. cells r l v k (found r l v); refs = λ r l v k e n. refs r l v k e n (found r l v) } }
     where
       right : (r l i : ℕ) → T r l i 1 .value ≢ 0 → Right r l i
@@ -171,7 +171,7 @@ module _ (D : Description) (L : Laws D) (T : Tables) (f : Framed D T) (j : Judge
           go (inr h) = record { there = cc (e, x .2, h .0); one = cc (e, x .2, h .1) }
 
 module _ (D : Description) (L : Laws D) (T : Tables) (t : Tidy D T) where
-  pub tidy-judged : Judged D T
+  tidy-judged : Judged D T
   tidy-judged r _ l _ i h = (
     λ n. (first n, (λ k _. cells (suc k) n (t .fine .cells (suc r) l (T (suc r) l i 1 .value) (suc k)), reference n (decide (eqb-r (T (suc r) l i (foreignOf D (suc r)) .value) 0)))),
     λ n k _. t .neat (suc r) l .clean i h (null n (decide (eqb-r (T (suc r) l i 1 .value) 0))) (suc k),

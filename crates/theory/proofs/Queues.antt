@@ -15,7 +15,7 @@ pub data Each {A : Type 0} (P : A → Type 0) : List A → Type 0 where
   more : {x : A} {xs : List A} → P x → Each P xs → Each P (x ∷ xs)
 
 -- a member of a list
-pub data In {A : Type 0} (x : A) : List A → Type 0 where
+data In {A : Type 0} (x : A) : List A → Type 0 where
   first : {xs : List A} → In x (x ∷ xs)
   later : {y : A} {xs : List A} → In x xs → In x (y ∷ xs)
 
@@ -100,7 +100,7 @@ module _ {S Request Reply : Type 0} (step : Request → S → S) (reply : Reques
     rights-is (from-left {p = p} {qs = qs} m) T (more h e) f g = rights-is m (step p T) e f (legal p T g) ∙ other-replies p qs T h f g
     rights-is (from-right {q = q} m) T e (more h f) g = ap (λ xs. reply q T ∷ xs) (rights-is m (step q T) e f (legal q T g))
 
-    pub any-merging : {ps qs : List Request} (m m′ : Merge ps qs) (T : S) → Each P ps → Each Q qs → Legal T → SameRun m m′ T
+    any-merging : {ps qs : List Request} (m m′ : Merge ps qs) (T : S) → Each P ps → Each Q qs → Legal T → SameRun m m′ T
     any-merging m m′ T e f g =
         record {
           state = final-is m T e f g ∙ sym (final-is m′ T e f g);

@@ -132,12 +132,12 @@ null-value D r k l = if-cases (λ (y : Cell). y .value ≡ 0) (bool-r (inRange D
 -- ---- where a row stands
 
 module _ (D : Description) (W : Tables) (c : ℕ) (N : ℕ → ℕ → Row) (E : Above) (T : Tables) (r l i : ℕ) where
-  pub data Carried (R : Row) : Type 0 where
+  data Carried (R : Row) : Type 0 where
     own : l ≡ c → R ≡ N r i → Carried R
     above : l ≢ c → over D l c ≡ true → R ≡ reach D W c E r l (T r l i) → Carried R
     aside : l ≢ c → (over D l c ≡ true → ⊥) → R ≡ T r l i → Carried R
 
-  pub carried : Carried (carry D W c N E T r l i)
+  carried : Carried (carry D W c N E T r l i)
   unfolding carry
   carried =
       if-cases Carried (eqb-r l c) (λ e. own e refl)

@@ -8,7 +8,6 @@ use lib.Dec.{eqb}
 use Rattle.bounded.proofs.First.{First, found, absent, first-cases}
 use Rattle.bounded.proofs.Reflection.{if-cases, of-true, of-false, decide, eqb-r, ltb-r}
 use Rattle.model.specs.Description.{rowCount}
-use Rattle.model.specs.Run.{empty}
 use Rattle.model.specs.Tables.{Cell, Row, norow, Tables, place, seek, at}
 use Rattle.model.specs.declared.Description.{Description}
 use Rattle.theory.proofs.Fine.{Absent}

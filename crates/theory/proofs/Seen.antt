@@ -9,7 +9,7 @@ use Rattle.model.specs.declared.Description.{Description}
 use Rattle.theory.proofs.Seek.{at-seek}
 
 module _ (D : Description) (G : State) (c : ℕ) where
-  pub seen-level : (l : ℕ) → over D c l ≡ true → seen D c G l ≡ G l
+  seen-level : (l : ℕ) → over D c l ≡ true → seen D c G l ≡ G l
   unfolding seen
   seen-level l h = rw h
 

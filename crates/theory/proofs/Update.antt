@@ -19,8 +19,7 @@ use Rattle.model.specs.Update.{setIn, takeIn}
 use Rattle.model.specs.declared.Description.{Description}
 use Rattle.theory.specs.Laws.{Laws}
 use Rattle.theory.proofs.Fine.{Held, Named, Absent, Keyed, Fine, lends-yes, lends-no, lends-cong, class-of, nocell-value, nocell-class, no-level, key-below}
-use Rattle.theory.proofs.Seek.{there}
-use Rattle.theory.proofs.Reach.{settle, own}
+use Rattle.theory.proofs.Reach.{settle}
 use Rattle.theory.proofs.Apt.{Owns, Names, Apt}
 
 pub keep≢take : {x : ℕ} → keep ≡ take x → ⊥

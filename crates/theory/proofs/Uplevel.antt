@@ -13,12 +13,11 @@ use Rattle.model.specs.Description.{over, foreignOf, refersOf, inRange}
 use Rattle.model.specs.Effect.{Rows, Change, keep, take, only, Above, agrees}
 use Rattle.model.specs.Listed.{listed}
 use Rattle.model.specs.Tables.{Cell, cell, nocell, same, Row, Tables, ownNull, lends}
-use Rattle.model.specs.Uplevel.{based, borrowed, raised}
+use Rattle.model.specs.Uplevel.{borrowed, raised}
 use Rattle.model.specs.declared.Description.{Description}
 use Rattle.theory.specs.Laws.{Laws}
 use Rattle.theory.proofs.Fine.{same-r, Held, Named, Absent, Keyed, Fine, lends-yes, lends-no, lends-cong, value-of, class-of, nocell-value, nocell-class, no-level, key-is, lends-class}
-use Rattle.theory.proofs.Seek.{there}
-use Rattle.theory.proofs.Reach.{settle, own-null, own}
+use Rattle.theory.proofs.Reach.{settle, own-null}
 use Rattle.theory.proofs.Apt.{Owns, Names, Apt}
 use Rattle.theory.proofs.Update.{keep≢take, only≢take}
 
