@@ -35,12 +35,6 @@ module _ (d : Description) where
   unfolding isColumn
   column-r r k = between-r 1 (columnCount d r) k
 
-  pub column-relation : (r k : ℕ) → isColumn d r k ≡ true → isRelation d r ≡ true
-  unfolding columnCount
-  column-relation r k e =
-      let h = of-true (column-r r k) e in
-      some-of (d .columns) r (λ z. let q : columnCount d r ≡ 0 = z in omega (arith, h .0, h .1))
-
   pub row-relation : (r i : ℕ) → i < rowCount d r → isRelation d r ≡ true
   unfolding rowCount
   row-relation r i h = some-of (d .rows) r (λ z. let q : rowCount d r ≡ 0 = z in omega arith)

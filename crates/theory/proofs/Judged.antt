@@ -1,55 +1,27 @@
 -- The judge says yes to exactly the legal tables, of those that are empty outside the description's limits.
 -- Assumes nothing.
-use Prim.Native.Nat.{ℕ, zero, suc, _<_, _≤_}
+use Prim.Native.Nat.{ℕ, zero, suc, _<_, _≤_, suc-le-suc}
 use mathlib.Core.Bool.{true, false}
 use mathlib.Core.Logic.{_≢_, _⊎_, inl, inr}
 use mathlib.Core.Path.{_≡_, refl, _∙_}
-use native.Mathlib.Nat.{lt-irrefl, not-le-of-lt}
+use native.Mathlib.Nat.{lt-irrefl, not-le-of-lt, le-of-suc-le-suc}
 use native.Mathlib.Omega.{arith}
 use Rattle.bounded.specs.Tests.{Reflects}
-use Rattle.bounded.proofs.Reflection.{is-true, is-false, of-true, of-false, decide, bool-r, not-r, and-r, or-r, if-r, all-r, reflects-as, eqb-r, ltb-r}
-use Rattle.model.specs.Buffers.{Buffers, inside, stateOf}
-use Rattle.model.specs.Description.{isLevel, over, columnCount, rowCount, foreignOf, refersOf, isColumn, inRange}
+use Rattle.bounded.proofs.Cases.{cases, clash}
+use Rattle.bounded.proofs.Reflection.{is-true, of-true, decide, bool-r, not-r, and-r, or-r, if-r, all-r, reflects-as, eqb-r, ltb-r}
+use Rattle.model.specs.Buffers.{inside}
+use Rattle.model.specs.Description.{over, columnCount, rowCount, foreignOf, refersOf, inRange}
 use Rattle.model.specs.Judge.{fits, cellRight, referenceRight, rowRight, legal}
-use Rattle.model.specs.Legal.{Legal}
+use Rattle.model.specs.Legal.{Legal, LegalState}
 use Rattle.model.specs.Tables.{Cell, nocell, Row, emptyRow, used, State, Tables, rowsOf, place, at, lends}
+use Rattle.model.proofs.Border.{Inside, inside-says, inside-shown, Framed}
 use Rattle.model.specs.declared.Description.{Description}
 use Rattle.theory.specs.Laws.{Laws}
-use Rattle.theory.proofs.Described.{relation-r, column-r, column-relation, row-relation, range-r, range-level}
+use Rattle.theory.proofs.Described.{relation-r, column-r, row-relation, range-r, range-level}
 use Rattle.theory.proofs.Fine.{cell-path, same-r, Held, Named, Absent, Keyed, nocell-value, no-level}
 use Rattle.theory.proofs.Seek.{Sought, there, nowhere, sought, Neat, seek-is, place-is, at-seek}
 use Rattle.theory.proofs.Lift.{Tidy}
 use Rattle.theory.proofs.Legality.{legal-tidy, tidy-legal}
-
-pub record Inside (D : Description) (r l i k : ℕ) : Type 0 where
-  pub relation : 0 < r
-  pub last : r ≤ D .relations
-  pub column : 0 < k
-  pub width : k ≤ columnCount D r
-  pub level : l < D .levels
-  pub row : i < rowCount D r
-
-pub inside-r : (D : Description) (r l i k : ℕ) → Reflects (Inside D r l i k) (inside D r l i k)
-unfolding inside isLevel
-inside-r D r l i k =
-    reflects-as
-    (λ h.
-    let c = of-true (column-r D r k) (h .0) in
-    let s = of-true (relation-r D r) (column-relation D r k (h .0)) in
-    record { relation = s .0; last = s .1; column = c .0; width = c .1; level = h .1 .0; row = h .1 .1 })
-    (λ x. (is-true (column-r D r k) (x .column, x .width), (x .level, x .row)))
-    (and-r (bool-r (isColumn D r k)) (and-r (ltb-r l (D .levels)) (ltb-r i (rowCount D r))))
-
--- empty outside the limits
-abbrev pub Framed : Description → Tables → Type 0
-Framed D T = (r l i k : ℕ) → inside D r l i k ≡ false → T r l i k ≡ nocell
-
-pub buffers-framed : (d : Description) (b : Buffers) → Framed d (rowsOf (stateOf d b))
-unfolding stateOf
-buffers-framed d b r l i k e = rw e
-
-off : (D : Description) (T : Tables) → Framed D T → (r l i k : ℕ) → (Inside D r l i k → ⊥) → T r l i k ≡ nocell
-off D T f r l i k n = f r l i k (is-false (inside-r D r l i k) n)
 
 module _ (D : Description) (T : Tables) where
   abbrev CellRight : ℕ → ℕ → Row → ℕ → Type 0
@@ -90,7 +62,13 @@ legal-r : (D : Description) (S : State) → Reflects (Judged D (rowsOf S)) (lega
 unfolding legal
 legal-r D S = all-r (D .relations) (λ r. all-r (D .levels) (λ l. all-r (rowCount D (suc r)) (λ i. row-r D (rowsOf S) (suc r) l i)))
 
-module _ (D : Description) (L : Laws D) (T : Tables) (f : Framed D T) (j : Judged D T) where
+module _ (D : Description) (S : State) (f : Framed D S) (j : Judged D (rowsOf S)) where
+  abbrev T : Tables
+  T = rowsOf S
+
+  off : (r l i k : ℕ) → (Inside D r l i k → ⊥) → T r l i k ≡ nocell
+  off r l i k n = f .outside r l i k (cases (inside D r l i k) (λ e. absurd (n (inside-says D r l i k e))) (λ e. e))
+
   record Right (r l i : ℕ) : Type 0 where
     some : T r l i 1 .value ≢ 0
     first : place (rowCount D r) (T r l) (T r l i 1 .value) ≡ i
@@ -99,28 +77,28 @@ module _ (D : Description) (L : Laws D) (T : Tables) (f : Framed D T) (j : Judge
 
   -- every row is empty or right
   row? : (r l i : ℕ) → Absent (T r l i) ⊎ Right r l i
-  row? zero l i = inl (λ k. off D T f 0 l i k (λ h. lt-irrefl 0 (h .relation)))
+  row? zero l i = inl (λ k. off 0 l i k (λ h. lt-irrefl 0 (of-true (relation-r D 0) (row-relation D 0 i (h .row)) .0)))
   row? (suc r) l i = go (decide (ltb-r r (D .relations))) (decide (ltb-r l (D .levels))) (decide (ltb-r i (rowCount D (suc r)))) (decide (not-r (eqb-r (T (suc r) l i 1 .value) 0)))
     where
       columns : {P : ℕ → Type 0} → ((k : ℕ) → T (suc r) l i k ≡ nocell → P k) → ((k : ℕ) → k < columnCount D (suc r) → P (suc k)) → (k : ℕ) → P k
-      columns o h zero = o 0 (off D T f (suc r) l i 0 (λ h. lt-irrefl 0 (h .column)))
+      columns o h zero = o 0 (off (suc r) l i 0 (λ h. lt-irrefl 0 (h .least)))
       columns {P} o h (suc k) = by (decide (ltb-r k (columnCount D (suc r))))
         where
           by : (k < columnCount D (suc r)) ⊎ (k < columnCount D (suc r) → ⊥) → P (suc k)
           by (inl b) = h k b
-          by (inr n) = o (suc k) (off D T f (suc r) l i (suc k) (λ h. n (h .width)))
+          by (inr n) = o (suc k) (off (suc r) l i (suc k) (λ h. n (h .column)))
 
       go : (r < D .relations) ⊎ (r < D .relations → ⊥) → (l < D .levels) ⊎ (l < D .levels → ⊥) → (i < rowCount D (suc r)) ⊎ (i < rowCount D (suc r) → ⊥)
           → (T (suc r) l i 1 .value ≢ 0) ⊎ ((T (suc r) l i 1 .value ≢ 0) → ⊥) → Absent (T (suc r) l i) ⊎ Right (suc r) l i
-      go (inr n) _ _ _ = inl (λ k. off D T f (suc r) l i k (λ h. n (h .last)))
-      go (inl a) (inr n) _ _ = inl (λ k. off D T f (suc r) l i k (λ h. n (h .level)))
-      go (inl a) (inl b) (inr n) _ = inl (λ k. off D T f (suc r) l i k (λ h. n (h .row)))
+      go (inr n) _ _ _ = inl (λ k. off (suc r) l i k (λ h. n (le-of-suc-le-suc (h .relation))))
+      go (inl a) (inr n) _ _ = inl (λ k. off (suc r) l i k (λ h. n (h .level)))
+      go (inl a) (inl b) (inr n) _ = inl (λ k. off (suc r) l i k (λ h. n (h .row)))
       go (inl a) (inl b) (inl c) (inr n) = inl (columns (λ k z. z) (j r a l b i c .1 n))
       go (inl a) (inl b) (inl c) (inl n) =
           inr (record { some = n; first = j r a l b i c .0 n .0; cells = columns (λ k z. inl z) (j r a l b i c .0 n .1 .0); reference = j r a l b i c .0 n .1 .1 })
 
   judged-tidy : Tidy D T
-  judged-tidy = record { neat = neat; outside = λ r l i h k. off D T f r l i k (λ x. not-le-of-lt (x .row) h); fine = record { keyed = λ r l v. keyed r l v (found r l v); cells = λ r l v k. cells r l v k (found r l v); refs = λ r l v k e n. refs r l v k e n (found r l v) } }
+  judged-tidy = record { neat = neat; outside = λ r l i h k. off r l i k (λ x. not-le-of-lt (x .row) h); fine = record { keyed = λ r l v. keyed r l v (found r l v); cells = λ r l v k. cells r l v k (found r l v); refs = λ r l v k e n. refs r l v k e n (found r l v) } }
     where
       right : (r l i : ℕ) → T r l i 1 .value ≢ 0 → Right r l i
       right r l i n = go (row? r l i)
@@ -206,32 +184,33 @@ pub legal-judged : (d : Description) → Laws d → (S : State) → Tidy d (rows
 legal-judged d L S t = is-true (legal-r d S) (tidy-judged d L (rowsOf S) t)
 
 -- the judge's yes is legality
-pub judged : (d : Description) → Laws d → (S : State) → Framed d (rowsOf S) → Reflects (Legal d (rowsOf S)) (legal d S)
+pub judged : (d : Description) → Laws d → (S : State) → Framed d S → Reflects (Legal d (rowsOf S)) (legal d S)
 judged d L S f =
-    reflects-as (λ j. tidy-legal d L (rowsOf S) (judged-tidy d L (rowsOf S) f j)) (λ g. tidy-judged d L (rowsOf S) (legal-tidy d L (rowsOf S) g)) (legal-r d S)
+    reflects-as (λ j. tidy-legal d L (rowsOf S) (judged-tidy d S f j)) (λ g. tidy-judged d L (rowsOf S) (legal-tidy d L (rowsOf S) g)) (legal-r d S)
 
 -- legal tables are empty outside the limits
-pub legal-framed : (d : Description) → Laws d → (T : Tables) → Legal d T → Framed d T
-legal-framed d L T g r l i k e = go (decide (same-r (T r l i k) nocell)) (decide (eqb-r (T r l i k .value) 0)) (decide (ltb-r i (rowCount d r)))
+pub legal-framed : (d : Description) → Laws d → (S : State) → LegalState d S → Framed d S
+legal-framed d L S g = record { outside = λ r l i k e. go r l i k e (decide (same-r (S l .rows r i k) nocell)) (decide (eqb-r (S l .rows r i k .value) 0)) (decide (ltb-r i (rowCount d r))) }
   where
-    c : ℕ
-    c = T r l i k .class
-
-    fits : inRange d r k c ≡ true → i < rowCount d r → ⊥
-    fits h b = of-false (inside-r d r l i k) e (record { relation = s .0; last = s .1; column = w .0; width = w .1; level = L .within l c (g .form-tc r l i k (λ e. no-level L e (range-level d L r k c h))) .0; row = b })
+    fits : (r l i k : ℕ) → inside d r l i k ≡ false → inRange d r k (S l .rows r i k .class) ≡ true → i < rowCount d r → ⊥
+    fits r l i k e h b = clash (inside-shown d r l i k (record { relation = suc-le-suc (of-true (relation-r d r) (row-relation d r i b) .1); level = L .within l c tc .0; row = b; least = w .0; column = w .1 })) e
       where
+        c : ℕ
+        c = S l .rows r i k .class
+
+        tc : over d l c ≡ true
+        tc = g .form-tc r l i k (λ z. no-level L z (range-level d L r k c h))
+
         w : (0 < k) × (k ≤ columnCount d r)
         w = of-true (column-r d r k) (of-true (range-r d r k c) h .0)
 
-        s : (0 < r) × (r ≤ d .relations)
-        s = of-true (relation-r d r) (row-relation d r i b)
-
-    go : (T r l i k ≡ nocell) ⊎ (T r l i k ≢ nocell) → (T r l i k .value ≡ 0) ⊎ (T r l i k .value ≢ 0) → (i < rowCount d r) ⊎ (i < rowCount d r → ⊥) → T r l i k ≡ nocell
-    go (inl z) _ _ = z
-    go (inr m) _ (inr b) = g .outside r l i k (omega arith)
-    go (inr m) (inr v) (inl b) = absurd (fits (g .form-value r l i k v) b)
-    go (inr m) (inl z) (inl b) = null (g .form-null r l i k z)
+    go : (r l i k : ℕ) → inside d r l i k ≡ false → (S l .rows r i k ≡ nocell) ⊎ (S l .rows r i k ≢ nocell) → (S l .rows r i k .value ≡ 0) ⊎ (S l .rows r i k .value ≢ 0)
+        → (i < rowCount d r) ⊎ (i < rowCount d r → ⊥) → S l .rows r i k ≡ nocell
+    go r l i k e (inl z) _ _ = z
+    go r l i k e (inr m) _ (inr b) = g .outside r l i k (omega arith)
+    go r l i k e (inr m) (inr v) (inl b) = absurd (fits r l i k e (g .form-value r l i k v) b)
+    go r l i k e (inr m) (inl z) (inl b) = null (g .form-null r l i k z)
       where
-        null : (inRange d r k c ≡ true) ⊎ (c ≡ 255) → T r l i k ≡ nocell
-        null (inl h) = absurd (fits h b)
-        null (inr e) = cell-path z e
+        null : (inRange d r k (S l .rows r i k .class) ≡ true) ⊎ (S l .rows r i k .class ≡ 255) → S l .rows r i k ≡ nocell
+        null (inl h) = absurd (fits r l i k e h b)
+        null (inr q) = cell-path z q
