@@ -3,16 +3,7 @@
 -- Assumes nothing.
 use mathlib.Core.List.{List, [], _∷_}
 use mathlib.Core.Path.{_≡_, refl, sym, ap, ap₂, _∙_}
-
--- a merging of two lists: which of them goes next
-pub data Merge {A : Type 0} : List A → List A → Type 0 where
-  finished : Merge [] []
-  from-left : {p : A} {ps qs : List A} → Merge ps qs → Merge (p ∷ ps) qs
-  from-right : {q : A} {ps qs : List A} → Merge ps qs → Merge ps (q ∷ qs)
-
-pub data Each {A : Type 0} (P : A → Type 0) : List A → Type 0 where
-  no-more : Each P []
-  more : {x : A} {xs : List A} → P x → Each P xs → Each P (x ∷ xs)
+use Rattle.theory.specs.Queues.{Merge, finished, from-left, from-right, Each, no-more, more, final, firsts, seconds, SameRun}
 
 -- a member of a list
 data In {A : Type 0} (x : A) : List A → Type 0 where
@@ -36,27 +27,6 @@ module _ {S Request Reply : Type 0} (step : Request → S → S) (reply : Reques
   unfoldable pub replies : List Request → S → List Reply
   replies [] T = []
   replies (p ∷ ps) T = reply p T ∷ replies ps (step p T)
-
-  -- a merging: what it leaves, and what each queue hears
-  unfoldable pub final : {ps qs : List Request} → Merge ps qs → S → S
-  final finished T = T
-  final (from-left {p = p} m) T = final m (step p T)
-  final (from-right {q = q} m) T = final m (step q T)
-
-  unfoldable pub lefts : {ps qs : List Request} → Merge ps qs → S → List Reply
-  lefts finished T = []
-  lefts (from-left {p = p} m) T = reply p T ∷ lefts m (step p T)
-  lefts (from-right {q = q} m) T = lefts m (step q T)
-
-  unfoldable pub rights : {ps qs : List Request} → Merge ps qs → S → List Reply
-  rights finished T = []
-  rights (from-left {p = p} m) T = rights m (step p T)
-  rights (from-right {q = q} m) T = reply q T ∷ rights m (step q T)
-
-  pub record SameRun {ps qs : List Request} (m m′ : Merge ps qs) (T : S) : Type 0 where
-    pub state : final m T ≡ final m′ T
-    pub first : lefts m T ≡ lefts m′ T
-    pub second : rights m T ≡ rights m′ T
 
   module _ (Legal : S → Type 0) (P Q : Request → Type 0)
       (legal : (s : Request) (T : S) → Legal T → Legal (step s T))
@@ -82,30 +52,30 @@ module _ {S Request Reply : Type 0} (step : Request → S → S) (reply : Reques
     other-replies p (q ∷ qs) T h (more k e) g =
         ap₂ (λ x xs. x ∷ xs) (quiet-q p q T h k g) (ap (replies qs) (commute p q T h k g) ∙ other-replies p qs (step q T) h e (legal q T g))
 
-    final-is : {ps qs : List Request} (m : Merge ps qs) (T : S) → Each P ps → Each Q qs → Legal T → final m T ≡ afterAll qs (afterAll ps T)
+    final-is : {ps qs : List Request} (m : Merge ps qs) (T : S) → Each P ps → Each Q qs → Legal T → final step reply m T ≡ afterAll qs (afterAll ps T)
     unfolding final afterAll
     final-is finished T e f g = refl
     final-is (from-left {p = p} m) T (more h e) f g = final-is m (step p T) e f (legal p T g)
     final-is (from-right {q = q} {ps = ps} {qs = qs} m) T e (more h f) g = final-is m (step q T) e f (legal q T g) ∙ ap (afterAll qs) (past ps q T e h g)
 
-    lefts-is : {ps qs : List Request} (m : Merge ps qs) (T : S) → Each P ps → Each Q qs → Legal T → lefts m T ≡ replies ps T
-    unfolding lefts replies
-    lefts-is finished T e f g = refl
-    lefts-is (from-left {p = p} m) T (more h e) f g = ap (λ xs. reply p T ∷ xs) (lefts-is m (step p T) e f (legal p T g))
-    lefts-is (from-right {q = q} {ps = ps} m) T e (more h f) g = lefts-is m (step q T) e f (legal q T g) ∙ past-replies ps q T e h g
+    firsts-is : {ps qs : List Request} (m : Merge ps qs) (T : S) → Each P ps → Each Q qs → Legal T → firsts step reply m T ≡ replies ps T
+    unfolding firsts replies
+    firsts-is finished T e f g = refl
+    firsts-is (from-left {p = p} m) T (more h e) f g = ap (λ xs. reply p T ∷ xs) (firsts-is m (step p T) e f (legal p T g))
+    firsts-is (from-right {q = q} {ps = ps} m) T e (more h f) g = firsts-is m (step q T) e f (legal q T g) ∙ past-replies ps q T e h g
 
-    rights-is : {ps qs : List Request} (m : Merge ps qs) (T : S) → Each P ps → Each Q qs → Legal T → rights m T ≡ replies qs T
-    unfolding rights replies
-    rights-is finished T e f g = refl
-    rights-is (from-left {p = p} {qs = qs} m) T (more h e) f g = rights-is m (step p T) e f (legal p T g) ∙ other-replies p qs T h f g
-    rights-is (from-right {q = q} m) T e (more h f) g = ap (λ xs. reply q T ∷ xs) (rights-is m (step q T) e f (legal q T g))
+    seconds-is : {ps qs : List Request} (m : Merge ps qs) (T : S) → Each P ps → Each Q qs → Legal T → seconds step reply m T ≡ replies qs T
+    unfolding seconds replies
+    seconds-is finished T e f g = refl
+    seconds-is (from-left {p = p} {qs = qs} m) T (more h e) f g = seconds-is m (step p T) e f (legal p T g) ∙ other-replies p qs T h f g
+    seconds-is (from-right {q = q} m) T e (more h f) g = ap (λ xs. reply q T ∷ xs) (seconds-is m (step q T) e f (legal q T g))
 
-    any-merging : {ps qs : List Request} (m m′ : Merge ps qs) (T : S) → Each P ps → Each Q qs → Legal T → SameRun m m′ T
+    any-merging : {ps qs : List Request} (m m′ : Merge ps qs) (T : S) → Each P ps → Each Q qs → Legal T → SameRun step reply m m′ T
     any-merging m m′ T e f g =
         record {
           state = final-is m T e f g ∙ sym (final-is m′ T e f g);
-          first = lefts-is m T e f g ∙ sym (lefts-is m′ T e f g);
-          second = rights-is m T e f g ∙ sym (rights-is m′ T e f g);
+          first = firsts-is m T e f g ∙ sym (firsts-is m′ T e f g);
+          second = seconds-is m T e f g ∙ sym (seconds-is m′ T e f g);
         }
 
   -- two queues of which each pair of requests, one of either, commutes on legal states and leaves the other's reply
@@ -114,7 +84,7 @@ module _ {S Request Reply : Type 0} (step : Request → S → S) (reply : Reques
       → ((s t : Request) (T : S) → Apart s t → Legal T → step t (step s T) ≡ step s (step t T))
       → ((s t : Request) (T : S) → Apart s t → Legal T → reply s (step t T) ≡ reply s T)
       → ((s t : Request) (T : S) → Apart s t → Legal T → reply t (step s T) ≡ reply t T)
-      → {ps qs : List Request} (m m′ : Merge ps qs) (T : S) → Each (λ s. Each (Apart s) qs) ps → Legal T → SameRun m m′ T
+      → {ps qs : List Request} (m m′ : Merge ps qs) (T : S) → Each (λ s. Each (Apart s) qs) ps → Legal T → SameRun step reply m m′ T
   queues-merge Legal Apart legal commute quiet-p quiet-q {ps} {qs} m m′ T a g =
       any-merging Legal (λ s. In s ps) (λ t. In t qs) legal (λ s t T i j. commute s t T (apart i j)) (λ s t T i j. quiet-p s t T (apart i j)) (λ s t T i j. quiet-q s t T (apart i j))
       m m′ T (each-of ps (λ s i. i)) (each-of qs (λ t j. j)) g

@@ -5,7 +5,8 @@ use Prim.Native.Nat.{ℕ}
 use mathlib.Core.Bool.{Bool, true}
 use mathlib.Core.List.{List}
 use mathlib.Core.Path.{_≡_}
-use Rattle.theory.proofs.Queues.{Merge, Each, SameRun, queues-merge}
+use Rattle.theory.specs.Queues.{Merge, Each, SameRun}
+use Rattle.theory.proofs.Queues.{queues-merge}
 
 -- c sees the same
 abbrev pub Low : (ℕ → ℕ → Bool) → {Level : Type 0} → ℕ → (ℕ → Level) → (ℕ → Level) → Type 0

@@ -29,7 +29,7 @@ use Rattle.theory.proofs.Legality.{legal-tidy, tidy-legal}
 use Rattle.theory.proofs.Judged.{legal-judged}
 use Rattle.theory.proofs.Accepted.{passed, accepted}
 use Rattle.theory.proofs.State.{fault, acts, step, reply}
-use Rattle.theory.proofs.Queues.{Merge, Each, SameRun}
+use Rattle.theory.specs.Queues.{Merge, Each, SameRun}
 use Rattle.theory.proofs.Runs.{Low, Apart, StepLaws}
 use Rattle.model.specs.declared.Fault.the-variants as Faults
 use Rattle.theory.proofs.Runs as Runs

@@ -1,0 +1,166 @@
+-- The theorems, stated over the definition of one call on buffers. proofs/Theorems.antt proves each under the name that stands above it.
+-- Assumes nothing: these are statements.
+use Prim.Native.Nat.{ℕ}
+use mathlib.Core.Path.{_≡_}
+use mathlib.Core.Logic.{_≢_, _⊎_}
+use mathlib.Core.Bool.{true, false}
+use mathlib.Core.List.{List}
+use mathlib.Core.Option.{some}
+use lib.ListN.{length}
+use Rattle.model.specs.declared.Description.{Description}
+use Rattle.model.specs.declared.What.the-variants as Whats
+use Rattle.model.specs.declared.Fault.{Fault}
+use Rattle.model.specs.declared.Answer.the-variants as Answers
+use Rattle.model.specs.declared.Verdict.{Verdict}
+use Rattle.model.specs.declared.Verdict.the-variants as Verdicts
+use Rattle.model.specs.Numbers.{countOf}
+use Rattle.model.specs.Description.{over, totalOf, sound}
+use Rattle.model.specs.Tables.{Cell, Tables, cell, rowsOf, seen, at}
+use Rattle.model.specs.Buffers.{Buffers, stateOf, buffersOf}
+use Rattle.model.specs.Legal.{LegalState}
+use Rattle.model.specs.Judge.{judge}
+use Rattle.model.specs.Listed.{listed}
+use Rattle.model.specs.Uplevel.{entityOf}
+use Rattle.model.specs.Run.{Request, subject, relation, Reply, Outcome, run}
+use Rattle.theory.specs.Queues.{Merge, Each, SameRun}
+
+-- ---- words of the statements
+
+-- the judge says yes
+abbrev pub Yes : Description → Buffers → Type 0
+Yes d b = judge d b ≡ Verdicts.Legal
+
+-- the tables that buffers hold
+abbrev pub tables : Description → Buffers → Tables
+tables d b = rowsOf (stateOf d b)
+
+-- what a call leaves in the table buffers, and what its subject hears
+abbrev pub leaves : Description → Request → Buffers → Buffers
+leaves d q b = run d b q .buffers
+
+abbrev pub hears : Description → Request → Buffers → Reply
+hears d q b = run d b q .reply
+
+-- neither request's level dominates the other's
+pub record Apart (d : Description) (q p : Request) : Type 0 where
+  pub not-over : over d (subject q) (subject p) ≡ true → ⊥
+  pub not-under : over d (subject p) (subject q) ≡ true → ⊥
+
+-- what a subject at c sees is the same
+abbrev pub SeesSame : Description → ℕ → Buffers → Buffers → Type 0
+SeesSame d c b b′ = (l : ℕ) → over d c l ≡ true → stateOf d b l ≡ stateOf d b′ l
+
+-- ---- judge-legal
+
+-- both buffers are as long as there are cells
+pub record Lengths (d : Description) (b : Buffers) : Type 0 where
+  pub values : length (b .values) ≡ totalOf d
+  pub classes : length (b .classes) ≡ totalOf d
+
+-- what a verdict says: each is given exactly where it applies and none before it does
+pub data Says (d : Description) (b : Buffers) : Verdict → Type 0 where
+  is-legal : sound d ≡ true → Lengths d b → LegalState d (stateOf d b) → Says d b Verdicts.Legal
+  not-sound : sound d ≡ false → Says d b Verdicts.Description
+  not-long : sound d ≡ true → (Lengths d b → ⊥) → Says d b Verdicts.Length
+  not-legal : sound d ≡ true → Lengths d b → (LegalState d (stateOf d b) → ⊥) → Says d b Verdicts.Illegal
+
+abbrev pub JudgeLegal : Type 0
+JudgeLegal = (d : Description) (b : Buffers) → Says d b (judge d b)
+
+-- ---- stays-legal
+
+abbrev pub StaysLegal : Type 0
+StaysLegal = (d : Description) (b : Buffers) (q : Request) → Yes d b → Yes d (leaves d q b)
+
+-- ---- refusal-keeps
+
+pub record Kept (d : Description) (b : Buffers) (q : Request) : Type 0 where
+  pub count : countOf (hears d q b .answer) ≡ 0
+  pub tables : leaves d q b ≡ b
+  pub shown : hears d q b .shown ≡ q .shown
+  pub owners : hears d q b .owners ≡ q .owners
+
+abbrev pub RefusalKeeps : Type 0
+RefusalKeeps = (d : Description) (b : Buffers) (q : Request) (fault : Fault) → hears d q b .answer ≡ Answers.Refused fault → Kept d b q
+
+-- ---- apart-commute
+
+-- in either order the same two answers with their output buffers, and the same table buffers
+pub record Commute (d : Description) (b : Buffers) (q p : Request) : Type 0 where
+  pub first : hears d q (leaves d p b) ≡ hears d q b
+  pub second : hears d p (leaves d q b) ≡ hears d p b
+  pub tables : leaves d p (leaves d q b) ≡ leaves d q (leaves d p b)
+
+abbrev pub ApartCommute : Type 0
+ApartCommute = (d : Description) (b : Buffers) (q p : Request) → Yes d b → Apart d q p → Commute d b q p
+
+-- ---- queues-merge
+
+abbrev pub QueuesMerge : Type 0
+QueuesMerge =
+    (d : Description) (b : Buffers) (qs ps : List Request) → Yes d b → Each (λ q. Each (λ p. Apart d q p) ps) qs
+    → (m m′ : Merge qs ps) → SameRun (leaves d) (hears d) m m′ b
+
+-- ---- one-outcome
+
+abbrev pub OneOutcome : Type 0
+OneOutcome = (d : Description) (b : Buffers) (q : Request) (o o′ : Outcome) → run d b q ≡ o → run d b q ≡ o′ → o ≡ o′
+
+-- ---- silence-shows
+
+-- an UPLEVEL at c of the entity, which lists column k FROM a
+pub record Lists (d : Description) (b : Buffers) (q : Request) (entity : Cell) (k a : ℕ) : Type 0 where
+  pub class : ℕ
+  pub what : q .statement .what ≡ Whats.Uplevel (entity .value) class
+  pub is : entityOf d (subject q) (relation q) (entity .value) class (rowsOf (seen d (subject q) (stateOf d b))) ≡ entity
+  pub column : listed (q .list) k ≡ some a
+
+-- the entity's row at level a is absent, or holds nothing of a's own in column k
+abbrev pub Silent : Description → Buffers → ℕ → Cell → ℕ → ℕ → Type 0
+Silent d b r entity k a = (v : ℕ) → v ≢ 0 → at d (tables d b) r a (entity .value) 1 ≡ entity → at d (tables d b) r a (entity .value) k ≡ cell v a → ⊥
+
+abbrev pub SilenceShows : Type 0
+SilenceShows =
+    (d : Description) (b : Buffers) (q : Request) (entity : Cell) (k a count : ℕ) → hears d q b .answer ≡ Answers.Done count → Lists d b q entity k a
+    → Silent d b (relation q) entity k a
+    → (at d (tables d (leaves d q b)) (relation q) (subject q) (entity .value) 1 ≡ entity)
+    × (at d (tables d (leaves d q b)) (relation q) (subject q) (entity .value) k ≡ cell 0 a)
+
+-- ---- trust-is-named
+
+-- that entity's row at level l held class a in column k before
+pub record Held (T : Tables) (r l : ℕ) (entity : Cell) (k a : ℕ) : Type 0 where
+  pub row : ℕ
+  pub one : T r l row 1 ≡ entity
+  pub class : T r l row k .class ≡ a
+
+-- an UPLEVEL at l, in relation r, of the entity, which lists column k FROM a
+pub record Named (d : Description) (b : Buffers) (q : Request) (r l : ℕ) (entity : Cell) (k a : ℕ) : Type 0 where
+  pub level : subject q ≡ l
+  pub within : relation q ≡ r
+  pub lists : Lists d b q entity k a
+
+abbrev pub TrustIsNamed : Type 0
+TrustIsNamed =
+    (d : Description) (b : Buffers) (q : Request) → Yes d b → (r l i k : ℕ) → k ≢ 1
+    → tables d (leaves d q b) r l i k .value ≢ 0 → tables d (leaves d q b) r l i k .class ≢ l
+    → Held (tables d b) r l (tables d (leaves d q b) r l i 1) k (tables d (leaves d q b) r l i k .class)
+    ⊎ Named d b q r l (tables d (leaves d q b) r l i 1) k (tables d (leaves d q b) r l i k .class)
+
+-- ---- sees-only
+
+pub record SeesOnly (d : Description) (q : Request) : Type 0 where
+  -- the answer and the rows shown depend only on levels that c dominates
+  pub reply : (b b′ : Buffers) → Yes d b → Yes d b′ → SeesSame d (subject q) b b′ → hears d q b ≡ hears d q b′
+  -- the new rows at e, which dominates c or is c, only on levels that e dominates
+  pub above : (b b′ : Buffers) → Yes d b → Yes d b′ → (e : ℕ) → over d e (subject q) ≡ true → SeesSame d e b b′ → SeesSame d e (leaves d q b) (leaves d q b′)
+  -- levels that don't dominate c stay
+  pub stays : (b : Buffers) → Yes d b → (l : ℕ) → (over d l (subject q) ≡ true → ⊥) → stateOf d (leaves d q b) l ≡ stateOf d b l
+
+abbrev pub OnlySeen : Type 0
+OnlySeen = (d : Description) (q : Request) → SeesOnly d q
+
+-- ---- visible-legal
+
+abbrev pub VisibleLegal : Type 0
+VisibleLegal = (d : Description) (b : Buffers) (c : ℕ) → Yes d b → Yes d (buffersOf d (seen d c (stateOf d b)))
