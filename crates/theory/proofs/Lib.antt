@@ -22,3 +22,4 @@ pub mod State
 pub mod Queues
 pub mod Runs
 pub mod Steps
+pub mod Calls
