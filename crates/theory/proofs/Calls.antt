@@ -2,12 +2,11 @@
 -- Assumes nothing.
 use Prim.Native.Nat.{ℕ}
 use mathlib.Core.Path.{_≡_, refl, sym, ap, _∙_, subst}
-use mathlib.Core.Bool.{Bool, true, false, not, _&&_}
+use mathlib.Core.Bool.{true, false}
 use mathlib.Core.Option.{Option, none, some}
 use native.Mathlib.Omega.{arith}
-use lib.Dec.{eqb}
 use lib.ListN.{length}
-use Rattle.bounded.specs.Tests.{if_then_else_, Reflects}
+use Rattle.bounded.specs.Tests.{Reflects}
 use Rattle.bounded.proofs.Cases.{cases}
 use Rattle.bounded.proofs.Reflection.{is-true, of-true, of-false, and-r, eqb-r, reflects-as}
 use Rattle.model.specs.declared.Description.{Description}

@@ -23,3 +23,5 @@ pub mod Queues
 pub mod Runs
 pub mod Steps
 pub mod Calls
+pub mod Theorems
+pub mod Instance
