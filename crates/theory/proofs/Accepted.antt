@@ -68,6 +68,19 @@ has-room : (D : Description) (B : Rows) (r : ℕ) → Reflects (lowestEmpty D B 
 unfolding hasRoom
 has-room D B r = ltb-r (lowestEmpty D B r) (rowCount D r)
 
+-- ---- the key of a statement that is formed
+
+pub update-key : (D : Description) (r : ℕ) (s : List ℕ) → updateFormed D r s ≡ true → listed s 1 ≡ none
+unfolding updateFormed
+update-key D r s g = not-listed s 1 (not-true (lists s 1) (and-left (not (lists s 1)) _ (and-right (columnsOnce s) _ (and-right (each (λ k v. isColumn D r k) s) _ (and-right (whole 2 s) _ g)))))
+
+pub uplevel-key : (D : Description) (r v kc : ℕ) (s : List ℕ) → uplevelFormed D r v kc s ≡ true → (v ≢ 0) × (listed s 1 ≡ none)
+unfolding uplevelFormed
+uplevel-key D r v kc s g = (of-true (not-r (eqb-r v 0)) (and-left (not (eqb v 0)) _ (and-right (not (lists s 1)) _ rest)), not-listed s 1 (not-true (lists s 1) (and-left (not (lists s 1)) _ rest)))
+  where
+    rest : (not (lists s 1) && (not (eqb v 0) && (eqb kc 255 || isLevel D kc))) ≡ true
+    rest = and-right (columnsOnce s) _ (and-right (each (λ k a. isColumn D r k && isLevel D a) s) _ (and-right (whole 2 s) _ g))
+
 -- ---- a relation's references
 
 module _ (D : Description) (L : Laws D) (G : State) (t : Tidy D (rowsOf G)) (c r : ℕ) (level : c < D .levels) where
@@ -118,14 +131,11 @@ module _ (D : Description) (L : Laws D) (G : State) (t : Tidy D (rowsOf G)) wher
 
   update-ok : (c r : ℕ) (s q : List ℕ) → c < D .levels → updateFormed D r s ≡ true → firstFault (updateTests D c r s q (seen D c G)) ≡ none
       → Fits D T₁ c (updated D c r s q (seen D c G c .rows))
-  unfolding updateFormed updateTests faultNumber
-  update-ok c r s q level g e = rw (seen-own D G c (L .reflexive c level)) (update-fits D L T₁ c r s q t level keyless ranged names)
+  unfolding updateTests faultNumber
+  update-ok c r s q level g e = rw (seen-own D G c (L .reflexive c level)) (update-fits D L T₁ c r s q t level (update-key D r s g) ranged names)
     where
       p : (n : ℕ) → testOf n (updateTests D c r s q (seen D c G)) ≡ true
       p = pass (updateTests D c r s q (seen D c G)) e
-
-      keyless : listed s 1 ≡ none
-      keyless = not-listed s 1 (not-true (lists s 1) (and-left (not (lists s 1)) _ (and-right (columnsOnce s) _ (and-right (each (λ k v. isColumn D r k) s) _ (and-right (whole 2 s) _ g)))))
 
       ranged : (k x : ℕ) → listed s k ≡ some x → inRange D r k c ≡ true
       ranged k x h = each-listed (λ k v. inRange D r k c) s k x (p 6) h
@@ -210,10 +220,10 @@ module _ (D : Description) (L : Laws D) (G : State) (t : Tidy D (rowsOf G)) wher
 
   uplevel-ok : (c r v kc : ℕ) (s : List ℕ) → c < D .levels → uplevelFormed D r v kc s ≡ true → firstFault (uplevelTests D c r v kc s (seen D c G)) ≡ none
       → Fits D T₁ c (uplevelled D c r (entityOf D c r v kc (rowsOf (seen D c G))) s (rowsOf (seen D c G)))
-  unfolding uplevelFormed uplevelTests faultNumber entityOf uplevelled
+  unfolding uplevelTests faultNumber entityOf uplevelled
   uplevel-ok c r v kc s level g h =
       rw (raised-seen c r e s level sees, seen-own D G c self′)
-      (uplevel-fits D L T₁ c r e s t level some-key base (bas .0) keyless ranged free names room)
+      (uplevel-fits D L T₁ c r e s t level (uplevel-key D r v kc s g .0) base (bas .0) (uplevel-key D r v kc s g .1) ranged free names room)
     where
       S : Tables
       S = rowsOf (seen D c G)
@@ -224,17 +234,8 @@ module _ (D : Description) (L : Laws D) (G : State) (t : Tidy D (rowsOf G)) wher
       p : (n : ℕ) → testOf n (uplevelTests D c r v kc s (seen D c G)) ≡ true
       p = pass (uplevelTests D c r v kc s (seen D c G)) h
 
-      rest : (not (lists s 1) && (not (eqb v 0) && (eqb kc 255 || isLevel D kc))) ≡ true
-      rest = and-right (columnsOnce s) _ (and-right (each (λ k a. isColumn D r k && isLevel D a) s) _ (and-right (whole 2 s) _ g))
-
       self′ : over D c c ≡ true
       self′ = L .reflexive c level
-
-      some-key : v ≢ 0
-      some-key = of-true (not-r (eqb-r v 0)) (and-left (not (eqb v 0)) _ (and-right (not (lists s 1)) _ rest))
-
-      keyless : listed s 1 ≡ none
-      keyless = not-listed s 1 (not-true (lists s 1) (and-left (not (lists s 1)) _ rest))
 
       bas : (over D c (e .class) ≡ true) × (at D S r (e .class) v 1 ≡ e)
       bas = is-based D c r v S (e .class) (p 7)

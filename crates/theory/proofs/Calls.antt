@@ -69,6 +69,14 @@ unfolding judge
 yes-of d b j =
     rw (j .sound, is-true (fitting-r d b) (j .lengths), is-true (legal-r d b (j .sound)) (j .legal))
 
+-- legal tables, as buffers
+pub buffers-yes : (d : Description) (S : State) → sound d ≡ true → LegalState d S → Yes d (buffersOf d S)
+buffers-yes d S s g = yes-of d (buffersOf d S) (record {
+  sound = s;
+  lengths = of-true (fitting-r d (buffersOf d S)) (buffers-fit d S);
+  legal = subst (LegalState d) (sym (state-buffers d S (legal-framed d (sound-laws d s) S g))) g;
+})
+
 -- ---- a call
 
 -- refused or done, on buffers
@@ -90,11 +98,11 @@ reply-done : (d : Description) (q : Request) (S : State) → fault d q S ≡ non
 unfolding reply
 reply-done d q S e = rw (e, reply)
 
-step-refused : (d : Description) (q : Request) (S : State) {x : Fault} → fault d q S ≡ some x → step d q S ≡ S
+pub step-refused : (d : Description) (q : Request) (S : State) {x : Fault} → fault d q S ≡ some x → step d q S ≡ S
 unfolding step acts
 step-refused d q S e = let a : acts d q S ≡ false = rw (e, acts) in rw a
 
-step-done : (d : Description) (q : Request) (S : State) → fault d q S ≡ none → step d q S ≡ after d q S
+pub step-done : (d : Description) (q : Request) (S : State) → fault d q S ≡ none → step d q S ≡ after d q S
 unfolding step acts
 step-done d q S e = let a : acts d q S ≡ true = rw (e, acts) in rw a
 
@@ -138,8 +146,4 @@ module _ (d : Description) (b : Buffers) (q : Request) (yes : Yes d b) where
       ∙ state-buffers d (step d q (stateOf d b)) (legal-framed d L (step d q (stateOf d b)) (step-legal d L q (stateOf d b) (j .legal)))
 
   pub stays-yes : Yes d (leaves d q b)
-  stays-yes = yes-of d (leaves d q b) (record {
-    sound = j .sound;
-    lengths = of-true (fitting-r d (leaves d q b)) (ap (fitting d) leaves-is ∙ buffers-fit d (step d q (stateOf d b)));
-    legal = subst (LegalState d) (sym leaves-state) (step-legal d L q (stateOf d b) (j .legal));
-  })
+  stays-yes = subst (Yes d) (sym leaves-is) (buffers-yes d (step d q (stateOf d b)) (j .sound) (step-legal d L q (stateOf d b) (j .legal)))

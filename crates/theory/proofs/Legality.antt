@@ -35,7 +35,7 @@ module _ (D : Description) (L : Laws D) (T : Tables) (g : Legal D T) where
   neat r l = record { unique = λ i j _ _ n e. g .one-row r l i j n e; clean = λ i _ z. clean r l i z }
 
   -- a row in use is found by its key
-  find : (r l i v : ℕ) → T r l i 1 .value ≡ v → v ≢ 0 → at D T r l v ≡ T r l i
+  pub find : (r l i v : ℕ) → T r l i 1 .value ≡ v → v ≢ 0 → at D T r l v ≡ T r l i
   find r l i v e n = at-seek D T r l v ∙ seek-is (rowCount D r) (T r l) (neat r l) i v (inside r l i (λ z. n (sym e ∙ z))) e n
 
   -- every row found is a row, or empty

@@ -25,3 +25,6 @@ pub mod Steps
 pub mod Calls
 pub mod Theorems
 pub mod Instance
+pub mod Visible
+pub mod Silence
+pub mod Trust

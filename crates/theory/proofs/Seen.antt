@@ -1,15 +1,20 @@
--- What a subject sees of its own level and of those below is what is there.
+-- What a subject sees of its own level and of those below is what is there, and of other levels nothing.
 -- Assumes nothing.
 use Prim.Native.Nat.{ℕ}
 use mathlib.Core.Bool.{true}
 use mathlib.Core.Path.{_≡_, sym, ap, _∙_}
+use Rattle.bounded.proofs.Reflection.{if-cases, bool-r}
 use Rattle.model.specs.Description.{over, rowCount}
-use Rattle.model.specs.Tables.{Row, Level, State, rowsOf, seen, seek, at}
+use Rattle.model.specs.Tables.{Row, Level, nolevel, State, rowsOf, seen, seek, at}
 use Rattle.model.specs.declared.Description.{Description}
 use Rattle.theory.proofs.Seek.{at-seek}
 
 module _ (D : Description) (G : State) (c : ℕ) where
-  seen-level : (l : ℕ) → over D c l ≡ true → seen D c G l ≡ G l
+  pub seen-as : (l : ℕ) (P : Level → Type 0) → (over D c l ≡ true → P (G l)) → P nolevel → P (seen D c G l)
+  unfolding seen
+  seen-as l P f e = if-cases P (bool-r (over D c l)) f (λ _. e)
+
+  pub seen-level : (l : ℕ) → over D c l ≡ true → seen D c G l ≡ G l
   unfolding seen
   seen-level l h = rw h
 

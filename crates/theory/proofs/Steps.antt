@@ -42,17 +42,17 @@ abbrev next : Description → Request → State → State → State
 next D q S T = left D (subject q) (effectAs D q (q .statement .what) (seen D (subject q) S)) T
 
 module _ (D : Description) (L : Laws D) where
-  -- what a request does, if it is done: an effect that fits, or nothing
-  data Went (q : Request) (S : State) : Type 0 where
-    went : (E : Effect) → ((T : State) → next D q S T ≡ stored (applied D (subject q) E (rowsOf T))) → Fits D (rowsOf S) (subject q) E → Went q S
-    stood : ((T : State) → next D q S T ≡ T) → Went q S
+  -- what holds of a request that is not refused
+  pub record Passed (q : Request) (S : State) : Type 0 where
+    pub well : formedAs D (relation q) (q .statement .what) (q .list) (q .conditions) ≡ true
+    pub fits : (E : Effect) → effectAs D q (q .statement .what) (seen D (subject q) S) ≡ some E → Fits D (rowsOf S) (subject q) E
 
-  go-on : (q : Request) (S : State) → Tidy D (rowsOf S) → firstFault (tests D q S) ≡ none → Went q S
-  unfolding tests formed isLevel left
-  go-on q S t e = go (effectAs D q (q .statement .what) (seen D (subject q) S)) refl
+  pub all-passed : (q : Request) (S : State) → Tidy D (rowsOf S) → fault D q S ≡ none → Passed q S
+  unfolding fault tests formed isLevel
+  all-passed q S t e = record { well = well; fits = λ E. accepted D L S t q (q .statement .what) E level well (p .1) }
     where
       p : (formed D q ≡ true) × (firstFault (further D q (q .statement .what) (seen D (subject q) S)) ≡ none)
-      p = passed (formed D q, Faults.Malformed) (further D q (q .statement .what) (seen D (subject q) S)) e
+      p = passed (formed D q, Faults.Malformed) (further D q (q .statement .what) (seen D (subject q) S)) (passed (legal D S, Faults.Illegal) (tests D q S) e .1)
 
       level : subject q < D .levels
       level = of-true (ltb-r (subject q) (D .levels)) (and-left (ltb (subject q) (D .levels)) _ (p .0))
@@ -60,8 +60,17 @@ module _ (D : Description) (L : Laws D) where
       well : formedAs D (relation q) (q .statement .what) (q .list) (q .conditions) ≡ true
       well = and-right (isRelation D (relation q)) _ (and-right (ltb (subject q) (D .levels)) _ (p .0))
 
+  -- what a request does, if it is done: an effect that fits, or nothing
+  data Went (q : Request) (S : State) : Type 0 where
+    went : (E : Effect) → ((T : State) → next D q S T ≡ stored (applied D (subject q) E (rowsOf T))) → Fits D (rowsOf S) (subject q) E → Went q S
+    stood : ((T : State) → next D q S T ≡ T) → Went q S
+
+  go-on : (q : Request) (S : State) → Passed q S → Went q S
+  unfolding left
+  go-on q S p = go (effectAs D q (q .statement .what) (seen D (subject q) S)) refl
+    where
       go : (o : Option Effect) → effectAs D q (q .statement .what) (seen D (subject q) S) ≡ o → Went q S
-      go (some E) i = went E (λ T. rw (i, left)) (accepted D L S t q (q .statement .what) E level well (p .1) i)
+      go (some E) i = went E (λ T. rw (i, left)) (p .fits E i)
       go none i = stood (λ T. rw (i, left))
 
   -- a request is done, or leaves the state
@@ -70,11 +79,11 @@ module _ (D : Description) (L : Laws D) where
     rest : acts D q S ≡ false → step D q S ≡ S → Step q S
 
   stepped : (q : Request) (S : State) → Tidy D (rowsOf S) → Step q S
-  unfolding step acts fault after
+  unfolding step acts after
   stepped q S t = go (fault D q S) refl
     where
       go : (o : Option Fault) → fault D q S ≡ o → Step q S
-      go none e = act (rw (e, acts)) (rw (e, acts)) (go-on q S t (passed (legal D S, Faults.Illegal) (tests D q S) e .1))
+      go none e = act (rw (e, acts)) (rw (e, acts)) (go-on q S (all-passed q S t e))
       go (some f) e = rest (rw (e, acts)) (rw (e, acts))
 
   step-tidy : (q : Request) (S : State) → Tidy D (rowsOf S) → Tidy D (rowsOf (step D q S))

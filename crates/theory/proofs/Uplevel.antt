@@ -1,18 +1,19 @@
 -- UPLEVEL's effect is apt. W finds rows by key, N the new rows at c.
 -- Assumes nothing.
 use Prim.Native.Nat.{ℕ, _<_}
-use mathlib.Core.Bool.{true, false, not, _&&_, false≢true}
+use mathlib.Core.Bool.{true, false, _&&_, false≢true}
 use mathlib.Core.List.{List}
 use mathlib.Core.Logic.{_≢_, _⊎_, inl, inr}
 use mathlib.Core.Option.{Option, none, some}
 use mathlib.Core.Path.{_≡_, refl, sym, ap, _∙_, subst}
+use native.Mathlib.Omega.{arith}
 use lib.Dec.{eqb}
 use Rattle.bounded.specs.Tests.{if_then_else_, Reflects}
 use Rattle.bounded.proofs.Reflection.{if-cases, is-true, is-false, decide, not-r, and-r, eqb-r}
-use Rattle.model.specs.Description.{over, foreignOf, refersOf, inRange}
-use Rattle.model.specs.Effect.{Rows, Change, keep, take, only, Above, agrees}
+use Rattle.model.specs.Description.{over, rowCount, foreignOf, refersOf, inRange}
+use Rattle.model.specs.Effect.{Rows, Change, keep, take, only, Above, agrees, lowestEmpty}
 use Rattle.model.specs.Listed.{listed}
-use Rattle.model.specs.Tables.{Cell, cell, nocell, same, Row, Tables, ownNull, lends}
+use Rattle.model.specs.Tables.{Cell, cell, nocell, same, Row, Tables, place, seek, ownNull, lends}
 use Rattle.model.specs.Uplevel.{borrowed, raised}
 use Rattle.model.specs.declared.Description.{Description}
 use Rattle.theory.specs.Laws.{Laws}
@@ -20,6 +21,36 @@ use Rattle.theory.proofs.Fine.{same-r, Held, Named, Absent, Keyed, Fine
 use Rattle.theory.proofs.Reach.{settle, own-null}
 use Rattle.theory.proofs.Apt.{Owns, Names, Apt}
 use Rattle.theory.proofs.Update.{keep≢take, only≢take}
+
+-- the place of the new row
+abbrev pub placeOf : Description → ℕ → Cell → Rows → ℕ
+placeOf D r e B = if same (seek (rowCount D r) (B r) (e .value) 1) e then place (rowCount D r) (B r) (e .value) else lowestEmpty D B r
+
+-- a cell of the new row: the entity's key; what the level FROM lends, where a reference names one entity there and at c; or own null
+module _ (D : Description) (W : Tables) (c r : ℕ) (e : Cell) (s : List ℕ) (k : ℕ) where
+  pub data Raised (y : Cell) : Type 0 where
+    is-key : k ≡ 1 → y ≡ e → Raised y
+    is-lent : (a : ℕ) → listed s k ≡ some a → (k ≡ foreignOf D r → y .value ≢ 0 → W (refersOf D r) c (y .value) 1 ≡ W (refersOf D r) a (y .value) 1)
+        → y ≡ lends (W r a (e .value)) e k a → Raised y
+    is-null : ((a : ℕ) → listed s k ≡ some a → lends (W r a (e .value)) e k a .value ≢ 0) → y ≡ ownNull D r k c → Raised y
+
+  pub raises : Raised (raised D W c r e s k)
+  unfolding raised borrowed agrees
+  raises = if-cases Raised (eqb-r k 1) (λ q. is-key q refl) (λ _. go (listed s k) refl)
+    where
+      go : (o : Option ℕ) → listed s k ≡ o → Raised (elim o [ none ↦ ownNull D r k c | some a ↦ borrowed D W c r e k a ])
+      go none q = is-null (λ a p z. let y : _≡_ {A = ℕ} 0 1 = cc (q, p) in omega arith) refl
+      go (some a) q =
+          if-cases Raised (and-r (eqb-r k (foreignOf D r)) (and-r (not-r (eqb-r (x .value) 0)) (not-r (same-r (W (refersOf D r) c (x .value) 1) (W (refersOf D r) a (x .value) 1)))))
+          (λ h. is-null (λ b p z. h .1 .0 (cc (q, p, z))) refl)
+          (λ n. is-lent a q (λ f z. agree (λ o. n (f, (z, o))) (decide (same-r (W (refersOf D r) c (x .value) 1) (W (refersOf D r) a (x .value) 1)))) refl)
+        where
+          x : Cell
+          x = lends (W r a (e .value)) e k a
+
+          agree : {A : Type 0} → ((A → ⊥) → ⊥) → A ⊎ (A → ⊥) → A
+          agree n (inl h) = h
+          agree n (inr h) = absurd (n h)
 
 module _ (D : Description) (L : Laws D) (W : Tables) (c r₀ : ℕ) (e : Cell) (s : List ℕ) (F : Fine D W) (level : c < D .levels)
     (some-key : e .value ≢ 0) (based : W r₀ (e .class) (e .value) 1 ≡ e) (sees : over D c (e .class) ≡ true) (keyless : listed s 1 ≡ none)
@@ -45,7 +76,7 @@ module _ (D : Description) (L : Laws D) (W : Tables) (c r₀ : ℕ) (e : Cell) (
       go (inl h) = new (h .0) (h .1) (λ k. rw (own r v, is-true (and-r (eqb-r r r₀) (eqb-r v (e .value))) h))
       go (inr n) = old n (rw (own r v, is-false (and-r (eqb-r r r₀) (eqb-r v (e .value))) n))
 
-  -- a cell of the new row: the key, lent, own null, or nothing
+  -- a cell of the new row, where own null is null or nothing
   data New (k : ℕ) : Type 0 where
     key : k ≡ 1 → R k ≡ e → New k
     lent : (d : ℕ) → listed s k ≡ some d → R k ≡ lends (W r₀ d (e .value)) e k d
@@ -54,42 +85,14 @@ module _ (D : Description) (L : Laws D) (W : Tables) (c r₀ : ℕ) (e : Cell) (
     empty : R k ≡ nocell → New k
 
   new-cell : (k : ℕ) → New k
-  unfolding R raised borrowed agrees
-  new-cell k = go (decide (eqb-r k 1)) (listed s k) refl
+  unfolding R
+  new-cell k = go (raises D W c r₀ e s k) (own-null D r₀ k c)
     where
-      nulled : (ownNull D r₀ k c ≡ nocell) ⊎ ((inRange D r₀ k c ≡ true) × (ownNull D r₀ k c ≡ cell 0 c)) → R k ≡ ownNull D r₀ k c → New k
-      nulled (inl z) p = empty (p ∙ z)
-      nulled (inr h) p = null (p ∙ h .1) (h .0)
-
-      go : (k ≡ 1) ⊎ (k ≢ 1) → (o : Option ℕ) → listed s k ≡ o → New k
-      go (inl q) _ _ = key q (rw (is-true (eqb-r k 1) q))
-      go (inr n) none q = nulled (own-null D r₀ k c) (rw (is-false (eqb-r k 1) n, q, raised))
-      go (inr n) (some d) q = by (decide test)
-        where
-          x : Cell
-          x = lends (W r₀ d (e .value)) e k d
-
-          -- the reference names another entity at c than at d
-          Other : Type 0
-          Other = (k ≡ foreignOf D r₀) × ((x .value ≢ 0) × (W (refersOf D r₀) c (x .value) 1 ≢ W (refersOf D r₀) d (x .value) 1))
-
-          test : Reflects Other (eqb k (foreignOf D r₀) && (not (eqb (x .value) 0) && not (same (W (refersOf D r₀) c (x .value) 1) (W (refersOf D r₀) d (x .value) 1))))
-          test = and-r (eqb-r k (foreignOf D r₀)) (and-r (not-r (eqb-r (x .value) 0)) (not-r (same-r (W (refersOf D r₀) c (x .value) 1) (W (refersOf D r₀) d (x .value) 1))))
-
-          is-borrowed : R k ≡ borrowed D W c r₀ e k d
-          is-borrowed = rw (is-false (eqb-r k 1) n, q, raised)
-
-          by : Other ⊎ (Other → ⊥) → New k
-          by (inl h) = nulled (own-null D r₀ k c) (is-borrowed ∙ rw (is-true test h))
-          by (inr m) = lent d q p (λ f nz. agree f nz (decide (same-r (W (refersOf D r₀) c (R k .value) 1) (W (refersOf D r₀) d (R k .value) 1))))
-            where
-              p : R k ≡ x
-              p = is-borrowed ∙ rw (is-false test m)
-
-              agree : k ≡ foreignOf D r₀ → R k .value ≢ 0 → (W (refersOf D r₀) c (R k .value) 1 ≡ W (refersOf D r₀) d (R k .value) 1) ⊎ (W (refersOf D r₀) c (R k .value) 1 ≢ W (refersOf D r₀) d (R k .value) 1)
-                  → W (refersOf D r₀) c (R k .value) 1 ≡ W (refersOf D r₀) d (R k .value) 1
-              agree f nz (inl a) = a
-              agree f nz (inr o) = absurd (m (f, ((λ z. nz (cc (p, z))), λ z. o (cc (p, z)))))
+      go : Raised D W c r₀ e s k (R k) → (ownNull D r₀ k c ≡ nocell) ⊎ ((inRange D r₀ k c ≡ true) × (ownNull D r₀ k c ≡ cell 0 c)) → New k
+      go (is-key q p) _ = key q p
+      go (is-lent d q ag p) _ = lent d q p ag
+      go (is-null _ p) (inl z) = empty (p ∙ z)
+      go (is-null _ p) (inr h) = null (p ∙ h .1) (h .0)
 
   R-key : R 1 ≡ e
   unfolding R raised
