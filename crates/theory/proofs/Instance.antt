@@ -10,7 +10,7 @@ use lib.ListN.{replicate}
 use Rattle.model.specs.declared.Description.{Description}
 use Rattle.model.specs.declared.Answer.the-variants as Answers
 use Rattle.model.specs.Description.{over, sound}
-use Rattle.model.specs.Tables.{Cell, cell, nocell}
+use Rattle.model.specs.Tables.{Cell, cell, at}
 use Rattle.model.specs.Buffers.{Buffers}
 use Rattle.model.specs.Run.{Request}
 use Rattle.model.proofs.Computed.{computed}
@@ -18,9 +18,10 @@ use Rattle.model.proofs.Build.{insertAt, updateAt, uplevelAt, holding}
 use Rattle.model.proofs.Worked.{described, five, one, no₁, no₂, levels, x₀, x₁, x₂, X, row₁}
 use Rattle.theory.specs.Laws.{Laws}
 use Rattle.theory.specs.Queues.{Merge, from-left, from-right, finished, Each, more, no-more, final, SameRun}
-use Rattle.theory.specs.Theorems.{Yes, leaves, hears, Apart, Commute, Lists, Silent}
+use Rattle.theory.specs.Theorems.{Yes, tables, leaves, hears, Apart, Commute, Lists, Silent}
 use Rattle.theory.proofs.Described.{sound-laws}
 use Rattle.theory.proofs.Theorems.{apart-commute, queues-merge}
+use Rattle.theory.proofs.Silence.{silence-shows}
 
 -- ---- the worked description and tables X, with P1's row at level 3
 
@@ -126,3 +127,7 @@ borrowing-lists = record { class = 255; what = refl; is = refl; column = refl }
 pub borrowing-silent : Silent five (holding (X no₁ no₂ no₂)) 1 (cell 7 0) 2 2
 unfolding computed
 borrowing-silent v n e f = let z : _≡_ {A = ℕ} 0 2 = ap (λ (x : Cell). x .class) f in omega arith
+
+-- so level 3 shows level 2 with nothing, and not the 20 that level 2 has from level 0
+pub silence-shown : at five (tables five (leaves five borrowing (holding (X no₁ no₂ no₂)))) 1 3 7 2 ≡ cell 0 2
+silence-shown = silence-shows five (holding (X no₁ no₂ no₂)) borrowing (cell 7 0) 2 2 1 borrowing-done borrowing-lists borrowing-silent .1

@@ -1,4 +1,4 @@
--- The theorems, stated over the definition of one call on buffers. proofs/Theorems.antt proves each under the name that stands above it.
+-- The theorems, stated over the definition of one call on buffers. Each is proved in proofs/ under the name that stands above it.
 -- Assumes nothing: these are statements.
 use Prim.Native.Nat.{ℕ}
 use mathlib.Core.Path.{_≡_}
@@ -128,13 +128,13 @@ SilenceShows =
 
 -- ---- trust-is-named
 
--- that entity's row at level l held class a in column k before
+-- that entity's row at level l had class a in column k before, with a value or waiting for one
 pub record Held (T : Tables) (r l : ℕ) (entity : Cell) (k a : ℕ) : Type 0 where
   pub row : ℕ
   pub one : T r l row 1 ≡ entity
   pub class : T r l row k .class ≡ a
 
--- an UPLEVEL at l, in relation r, of the entity, which lists column k FROM a
+-- the request is an UPLEVEL at l, in relation r, of the entity, which lists column k FROM a
 pub record Named (d : Description) (b : Buffers) (q : Request) (r l : ℕ) (entity : Cell) (k a : ℕ) : Type 0 where
   pub level : subject q ≡ l
   pub within : relation q ≡ r
