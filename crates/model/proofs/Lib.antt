@@ -7,4 +7,5 @@ pub mod Meeting
 pub mod Limits
 pub mod Refusals
 pub mod Judging
+pub mod Sound
 pub mod Border

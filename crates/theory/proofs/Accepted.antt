@@ -29,7 +29,8 @@ use Rattle.model.specs.declared.Description.{Description}
 use Rattle.model.specs.declared.What.{What}
 use Rattle.model.specs.declared.Fault.{Fault}
 use Rattle.theory.specs.Laws.{Laws}
-use Rattle.theory.proofs.Described.{relation-r, row-relation}
+use Rattle.theory.proofs.Described.{row-relation}
+use Rattle.model.proofs.Sound.{relation-r}
 use Rattle.theory.proofs.Fine.{same-r, Absent, Keyed, key-is}
 use Rattle.theory.proofs.Seek.{Sought, there, nowhere, sought, at-seek}
 use Rattle.theory.proofs.Lift.{Tidy, Fits}

@@ -23,7 +23,8 @@ use Rattle.model.specs.Update.{setIn, updated}
 use Rattle.model.specs.Uplevel.{raised, placed}
 use Rattle.model.specs.declared.Description.{Description}
 use Rattle.theory.specs.Laws.{Laws}
-use Rattle.theory.proofs.Described.{column-r, row-relation}
+use Rattle.theory.proofs.Described.{row-relation}
+use Rattle.model.proofs.Sound.{column-r}
 use Rattle.theory.proofs.Fine.{same-r, Absent, Keyed, value-of, nocell-value}
 use Rattle.theory.proofs.Seek.{Sought, there, nowhere, sought, Neat, seek-is, place-is, neat-map, seek-map, at-seek}
 use Rattle.theory.proofs.Lift.{Tidy, Fits}

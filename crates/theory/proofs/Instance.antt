@@ -3,19 +3,19 @@
 -- Assumes nothing.
 use mathlib.Core.Path.{_≡_, refl, ap}
 use native.Mathlib.Omega.{arith}
-use mathlib.Core.Bool.{true, false, false≢true}
+use mathlib.Core.Bool.{true, false≢true}
 use Prim.Native.Nat.{ℕ}
 use mathlib.Core.List.{List, [], _∷_}
 use lib.ListN.{replicate}
 use Rattle.model.specs.declared.Description.{Description}
 use Rattle.model.specs.declared.Answer.the-variants as Answers
-use Rattle.model.specs.Description.{over, sound}
+use Rattle.model.specs.Description.{sound}
 use Rattle.model.specs.Tables.{Cell, cell, at}
 use Rattle.model.specs.Buffers.{Buffers}
 use Rattle.model.specs.Run.{Request}
 use Rattle.model.proofs.Computed.{computed}
 use Rattle.model.proofs.Build.{insertAt, updateAt, uplevelAt, holding}
-use Rattle.model.proofs.Worked.{described, five, one, no₁, no₂, levels, x₀, x₁, x₂, X, row₁}
+use Rattle.model.proofs.Worked.{five, one, no₁, no₂, levels, x₀, x₁, x₂, X, row₁}
 use Rattle.theory.specs.Laws.{Laws}
 use Rattle.theory.specs.Queues.{Merge, from-left, from-right, finished, Each, more, no-more, final, SameRun}
 use Rattle.theory.specs.Theorems.{Yes, tables, leaves, hears, Apart, Commute, Lists, Silent}

@@ -17,7 +17,8 @@ use Rattle.model.specs.Tables.{Cell, nocell, Row, emptyRow, used, State, Tables
 use Rattle.model.proofs.Border.{Inside, inside-says, inside-shown, Framed}
 use Rattle.model.specs.declared.Description.{Description}
 use Rattle.theory.specs.Laws.{Laws}
-use Rattle.theory.proofs.Described.{relation-r, column-r, row-relation, range-r, range-level}
+use Rattle.theory.proofs.Described.{row-relation, range-r, range-level}
+use Rattle.model.proofs.Sound.{relation-r, column-r}
 use Rattle.theory.proofs.Fine.{cell-path, same-r, Held, Named, Absent, Keyed, nocell-value, no-level}
 use Rattle.theory.proofs.Seek.{Sought, there, nowhere, sought, Neat, seek-is, place-is, at-seek}
 use Rattle.theory.proofs.Lift.{Tidy}
