@@ -1,0 +1,88 @@
+// Cells and rows that are stored.
+use crate::layout::Part;
+use crate::layout::place;
+use model::Description;
+ghost use mathlib.Core.Path.{_≡_};
+ghost use mathlib.Core.Bool.{true};
+ghost use Prim.Native.Nat.{ℕ};
+ghost use mathlib.Core.List.{List};
+ghost use lib.ListN.{length};
+ghost use Rattle.model.specs.Description.{columnCount};
+ghost use Rattle.model.specs.Tables.{cell, norow};
+ghost use Rattle.model.specs.Buffers.{inside, stateOf};
+ghost use Rattle.cells.specs.Layout.{Sized, Lent, InRow};
+ghost use Rattle.cells.specs.Changed.{holding, changeLevel, withCell, withValue, withRow};
+
+// A cell is stored.
+pub fn put(
+    values: &mut [u32],
+    classes: &mut [u8],
+    description: Description,
+    relation: usize,
+    part: Part,
+    level: usize,
+    row: usize,
+    column: usize,
+    value: u32,
+    class: u8,
+)
+    requires { ⌜ Lent description relation part (length (now values)) (length (now classes)) ⌝ }
+    requires { ⌜ inside description relation level row column ≡ true ⌝ }
+    ensures { λ _. ⌜ stateOf description (holding (now (values .exit)) (now (classes .exit))) ≡ changeLevel level (withCell relation row column (cell value class)) (stateOf description (holding (now (values .entry)) (now (classes .entry)))) ⌝ }
+{
+    let at = place(description, relation, part, level, row, column);
+    values[at] = value;
+    classes[at] = class;
+}
+
+// A cell's value is stored, its class kept.
+pub fn put_value(
+    values: &mut [u32],
+    description: Description,
+    relation: usize,
+    part: Part,
+    level: usize,
+    row: usize,
+    column: usize,
+    value: u32,
+)
+    requires { ⌜ Sized description relation part (length (now values)) ⌝ }
+    requires { ⌜ inside description relation level row column ≡ true ⌝ }
+    ensures { λ _. ⌜ ((classes : List ℕ) → stateOf description (holding (now (values .exit)) classes) ≡ changeLevel level (withValue relation row column value) (stateOf description (holding (now (values .entry)) classes))) ⌝ }
+{
+    let at = place(description, relation, part, level, row, column);
+    values[at] = value;
+}
+
+// A row goes out of use: it becomes empty throughout.
+pub fn clear(
+    values: &mut [u32],
+    classes: &mut [u8],
+    description: Description,
+    relation: usize,
+    part: Part,
+    level: usize,
+    row: usize,
+)
+    requires { ⌜ Lent description relation part (length (now values)) (length (now classes)) ⌝ }
+    requires { ⌜ InRow description relation level row ⌝ }
+    ensures { λ _. ⌜ stateOf description (holding (now (values .exit)) (now (classes .exit))) ≡ changeLevel level (withRow (columnCount description relation) relation row norow) (stateOf description (holding (now (values .entry)) (now (classes .entry)))) ⌝ }
+{
+    let columns = part.columns;
+    let mut column = 0;
+    while column < columns {
+        put(
+            values,
+            classes,
+            description,
+            relation,
+            part,
+            level,
+            row,
+            column + 1,
+            0,
+            255,
+        );
+        column += 1;
+    }
+}
