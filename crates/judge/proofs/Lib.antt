@@ -1,0 +1,6 @@
+mod Search
+mod Sets
+mod Places
+mod Columns
+mod Entities
+mod Once
