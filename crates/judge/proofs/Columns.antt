@@ -1,20 +1,19 @@
 -- Laws of a cell: one for each way through the code.
 -- Assumes nothing.
-use mathlib.Core.Path.{_≡_, refl, sym, ap, subst, _∙_}
+use mathlib.Core.Path.{_≡_, refl, sym, ap, _∙_}
 use mathlib.Core.Bool.{Bool, true, false, _&&_, _||_}
 use mathlib.Core.Logic.{_≢_}
 use mathlib.Core.List.{List}
-use Prim.Native.Nat.{ℕ, zero, suc, _+_, _-_, _*_, _≤_, _<_}
-use native.Mathlib.Nat.{le-refl, add-zero}
+use Prim.Native.Nat.{ℕ, suc, _+_, _*_, _≤_, _<_}
+use native.Mathlib.Nat.{add-zero}
 use native.Mathlib.Omega.{arith}
 use lib.Dec.{eqb, ltb}
-use lib.ListN.{length, getD}
+use lib.ListN.{getD}
 use lib.Bits.{bitAnd}
-use borrow.Author.Tests.{lt-ltb, le-ltb, le-leb, ltb-true, ltb-false, eq-eqb, ne-eqb, eqb-true, eqb-false}
-use Rattle.bounded.specs.Bounded.{firstBelow, allBelow}
-use Rattle.bounded.proofs.Cases.{cases, clash, and-left, and-right, and-false-right, order}
-use Rattle.bounded.proofs.First.{first-holds, first-before, first-le}
-use Rattle.bounded.proofs.All.{all-fails, all-at}
+use borrow.Author.Tests.{le-leb, ltb-true, ltb-false, eq-eqb, ne-eqb}
+use Rattle.bounded.specs.Bounded.{firstBelow}
+use Rattle.bounded.proofs.Cases.{cases, clash, and-left, and-right, and-false-right}
+use Rattle.bounded.proofs.First.{first-holds, first-before}
 use Rattle.model.specs.declared.Description.{Description}
 use Rattle.model.specs.Description as Described
 use Rattle.model.specs.Description.{over, columnCount, isColumn, highOf, lowOf, inRange}
@@ -39,7 +38,7 @@ pub fits-out : (d : Description) → Leveled d → (r l k e c : ℕ) → d .leve
 fits-out d L r l k e c h = cases (fits d r l k e c) (λ t. absurd (omega (arith, fits-within d L r l k e c t))) (λ t. t)
 
 -- the classes in range of column k + 1, and those that a row may have besides
-pub fitting : (d : Description) (vs cs ks ws : List ℕ) (a : Area) (l c w k q : ℕ) → Ready d vs cs ks a → Ranges d ws → Between d l c w → k < a.cols → q ≡ 9 * a.relation + 1
+pub fitting : (d : Description) (vs cs ks ws : List ℕ) (a : Area) (l c w k q : ℕ) → Ready d vs cs ks a → Ranges d 81 ws → Between d l c w → k < a.cols → q ≡ 9 * a.relation + 1
     → Fitting d a.relation l (suc k) c (bitAnd (getD ws (q + k) 0) w)
 unfolding fits inRange isColumn Described.between highOf lowOf
 fitting d vs cs ks ws a l c w k q R G B h e =
@@ -47,7 +46,7 @@ fitting d vs cs ks ws a l c w k q R G B h e =
     let g : suc k ≤ columnCount d a.relation = rw (← (R .cols)) h in
     record {
       right = λ b. bit-and (getD ws (q + k) 0) w b
-          ∙ rw (p, G .right (9 * a.relation + suc k) b (omega (arith, R .named, R .wide)), B .right b, le-leb 1 (suc k) (omega arith), le-leb (suc k) (columnCount d a.relation) g);
+          ∙ rw (p, G .right (9 * a.relation + suc k) (omega (arith, R .named, R .wide)) .right b, B .right b, le-leb 1 (suc k) (omega arith), le-leb (suc k) (columnCount d a.relation) g);
     }
 
 -- ---- a cell

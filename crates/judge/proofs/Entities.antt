@@ -1,24 +1,21 @@
 -- Laws of a reference and of a row: one for each way through the code.
 -- Assumes nothing.
 use mathlib.Core.Path.{_≡_, refl, sym, ap, subst, _∙_}
-use mathlib.Core.Bool.{Bool, true, false, _&&_, _||_}
+use mathlib.Core.Bool.{Bool, true, false}
 use mathlib.Core.Logic.{_≢_}
 use mathlib.Core.List.{List}
-use Prim.Native.Nat.{ℕ, zero, suc, _+_, _-_, _*_, _≤_, _<_}
-use native.Mathlib.Nat.{le-refl, add-zero}
+use Prim.Native.Nat.{ℕ, suc, _+_, _-_, _*_, _≤_, _<_}
 use native.Mathlib.Omega.{arith}
 use lib.Dec.{eqb, ltb}
-use lib.ListN.{length, getD}
-use lib.Bits.{bitAnd}
-use borrow.Author.Tests.{lt-ltb, le-ltb, le-leb, ltb-true, ltb-false, eq-eqb, ne-eqb, eqb-true, eqb-false}
-use Rattle.bounded.specs.Bounded.{firstBelow, allBelow}
-use Rattle.bounded.proofs.Cases.{cases, clash, and-left, and-right, and-false-right, order}
-use Rattle.bounded.proofs.First.{first-holds, first-before, first-le}
-use Rattle.bounded.proofs.All.{all-fails, all-at}
+use lib.ListN.{getD}
+use borrow.Author.Tests.{le-ltb, ltb-true, ltb-false, eq-eqb, ne-eqb, eqb-true, eqb-false}
+use Rattle.bounded.specs.Bounded.{allBelow}
+use Rattle.bounded.proofs.Cases.{cases}
+use Rattle.bounded.proofs.All.{all-fails}
 use Rattle.model.specs.declared.Description.{Description}
 use Rattle.model.specs.Description as Described
-use Rattle.model.specs.Description.{columnCount, rowCount, foreignOf, refersOf, isColumn, isLevel}
-use Rattle.model.specs.Tables.{Cell, Row, Tables, cell, nocell, norow, same, used, emptyRow, place, at}
+use Rattle.model.specs.Description.{foreignOf, isColumn, isLevel}
+use Rattle.model.specs.Tables.{Cell, Tables, cell, nocell, norow, same, used, emptyRow, place, at}
 use Rattle.model.specs.Buffers.{inside}
 use Rattle.model.specs.Judge.{cellRight, referenceRight, rowRight}
 use Rattle.model.proofs.Border.{state-framed}

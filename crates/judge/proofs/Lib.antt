@@ -4,3 +4,7 @@ mod Places
 mod Columns
 mod Entities
 mod Once
+mod Starts
+mod Descriptions
+mod Passes
+pub mod Settled

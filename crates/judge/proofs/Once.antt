@@ -1,22 +1,19 @@
 -- Keys that stand once, and keys that are copied side by side.
 -- Assumes nothing.
-use mathlib.Core.Path.{_≡_, refl, sym, ap, subst, _∙_}
-use mathlib.Core.Bool.{Bool, true, false, _&&_, _||_}
+use mathlib.Core.Path.{_≡_, refl, _∙_}
+use mathlib.Core.Bool.{true}
 use mathlib.Core.Logic.{_≢_}
 use mathlib.Core.List.{List}
-use Prim.Native.Nat.{ℕ, zero, suc, _+_, _-_, _*_, _≤_, _<_}
-use native.Mathlib.Nat.{le-refl, add-zero}
+use Prim.Native.Nat.{ℕ, _+_, _*_, _<_}
 use native.Mathlib.Omega.{arith}
-use lib.Dec.{eqb, ltb}
+use lib.Dec.{eqb}
 use lib.ListN.{length, getD, set, length-set}
 use lib.Seq.{getD-set-same, getD-set-other}
-use lib.Bits.{bitAnd}
-use borrow.Author.Tests.{lt-ltb, le-ltb, le-leb, ltb-true, ltb-false, eq-eqb, ne-eqb, eqb-true, eqb-false}
+use borrow.Author.Tests.{ne-eqb, eqb-true, eqb-false}
 use Rattle.bounded.specs.Bounded.{firstBelow, allBelow}
-use Rattle.bounded.proofs.Cases.{cases, clash, and-left, and-right, and-false-right, order}
-use Rattle.bounded.proofs.First.{first-holds, first-before, first-le}
-use Rattle.bounded.proofs.All.{all-fails, all-at}
-use Rattle.model.specs.declared.Description.{Description}
+use Rattle.bounded.proofs.Cases.{cases, clash, order}
+use Rattle.bounded.proofs.First.{first-before}
+use Rattle.bounded.proofs.All.{all-at}
 use Rattle.judge.specs.Facts.{hasKey, Once, firstOf, Gathered}
 
 earlier : (ks : List ℕ) (from n v a b : ℕ) → allBelow n (firstOf ks from) ≡ true → v ≢ 0 → a < b → b < n → hasKey ks from v a ≡ true → hasKey ks from v b ≡ true → ⊥

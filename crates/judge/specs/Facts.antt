@@ -1,19 +1,20 @@
 -- What the judge's inner functions know of the numbers and slices that they are given.
 -- Assumes nothing: these are definitions and statements.
 use mathlib.Core.Path.{_≡_}
-use mathlib.Core.Bool.{Bool, true, false, _&&_, _||_}
+use mathlib.Core.Bool.{Bool, true, _&&_, _||_}
 use mathlib.Core.Logic.{_≢_, _⊎_}
 use mathlib.Core.List.{List}
-use Prim.Native.Nat.{ℕ, suc, _+_, _*_, _/_, _%_, _^_, _≤_, _<_}
+use Prim.Native.Nat.{ℕ, suc, pred, _+_, _*_, _/_, _%_, _^_, _≤_, _<_}
 use lib.Dec.{eqb, ltb}
 use lib.ListN.{length, getD}
 use Rattle.bounded.specs.Tests.{if_then_else_}
 use Rattle.bounded.specs.Bounded.{firstBelow, allBelow}
 use Rattle.model.specs.declared.Description.{Description}
-use Rattle.model.specs.Description.{over, columnCount, rowCount, foreignOf, refersOf}
+use Rattle.level.specs.Order.{orderOf, entryOf}
+use Rattle.model.specs.Description.{over, columnCount, rowCount, foreignOf, refersOf, startOf, totalOf}
 use Rattle.model.specs.Tables.{Cell, Row, Tables, cell, same, place, at, rowsOf}
-use Rattle.model.specs.Buffers.{Buffers, stateOf}
-use Rattle.model.specs.Judge.{fits, cellRight, referenceRight}
+use Rattle.model.specs.Buffers.{stateOf}
+use Rattle.model.specs.Judge.{fits, cellRight, referenceRight, rowRight}
 use Rattle.judge.specs.declared.areas.Area.{Area}
 
 -- the tables that two buffers hold
@@ -61,14 +62,35 @@ pub record Leveled (d : Description) : Type 0 where
   pub few : d .levels ≤ 16
   pub within : (a b : ℕ) → over d a b ≡ true → (a < d .levels) × (b < d .levels)
 
+-- the set r is the set w, with b in it where `on`
+pub record With (w b : ℕ) (on : Bool) (r : ℕ) : Type 0 where
+  pub right : (c : ℕ) → hasBit r c ≡ (if eqb c b then on || hasBit w c else hasBit w c)
+
+-- the set of the levels below m of which f is true
+pub record Word (f : ℕ → Bool) (m w : ℕ) : Type 0 where
+  pub right : (c : ℕ) → hasBit w c ≡ (ltb c m && f c)
+
+-- in an order that was laid out, level a dominates level b, or, turned, is dominated by it
+unfoldable pub pairOf : List (List Bool) → Bool → ℕ → ℕ → Bool
+pairOf order turned a b = if turned then entryOf order b a else entryOf order a b
+
+-- the sets of the levels that each of the first n levels dominates, or, turned, is dominated by
+pub record Words (order : List (List Bool)) (turned : Bool) (n : ℕ) (ws : List ℕ) : Type 0 where
+  pub long : length ws ≡ 16
+  pub right : (a : ℕ) → a < n → Word (pairOf order turned a) 16 (getD ws a 0)
+
 -- the set of the classes that fit in column k of a row at l whose key is of class c
 pub record Fitting (d : Description) (r l k c w : ℕ) : Type 0 where
   pub right : (e : ℕ) → hasBit w e ≡ fits d r l k c e
 
--- the sets of the classes in range, a word for each place of the description's ranges
-pub record Ranges (d : Description) (ws : List ℕ) : Type 0 where
+-- the set of the levels from `low` to `high`
+pub record Within (d : Description) (low high w : ℕ) : Type 0 where
+  pub right : (c : ℕ) → hasBit w c ≡ (over d high c && over d c low)
+
+-- the sets of the classes in range, a word for each place of the description's ranges, at the first n places
+pub record Ranges (d : Description) (n : ℕ) (ws : List ℕ) : Type 0 where
   pub long : length ws ≡ 81
-  pub right : (p c : ℕ) → p < 81 → hasBit (getD ws p 0) c ≡ (over d (getD (d .high) p 0) c && over d c (getD (d .low) p 0))
+  pub right : (p : ℕ) → p < n → Within d (getD (d .low) p 0) (getD (d .high) p 0) (getD ws p 0)
 
 -- the set of the classes that a row at l whose key is of class c may have besides
 pub record Between (d : Description) (l c w : ℕ) : Type 0 where
@@ -81,12 +103,74 @@ pub record Orders (d : Description) (bs us : List ℕ) : Type 0 where
   pub below : (a b : ℕ) → a < 16 → hasBit (getD bs a 0) b ≡ over d a b
   pub above : (a b : ℕ) → b < 16 → hasBit (getD us b 0) a ≡ over d a b
 
+-- ---- a description
+
+-- its numbers are small enough to be multiplied
+pub record Bounded (d : Description) : Type 0 where
+  pub levels : d .levels ≤ 16
+  pub relations : d .relations ≤ 8
+  pub rows : (r : ℕ) → rowCount d r ≤ 64
+  pub cols : (r : ℕ) → columnCount d r ≤ 8
+
+-- what is known of a sound description
+pub record Sane (d : Description) : Type 0 where
+  pub bounded : Bounded d
+  pub levels : Leveled d
+  pub total : totalOf d ≤ 8192
+  pub keyed : (r : ℕ) → r < d .relations → 0 < columnCount d (suc r)
+  pub column : (r : ℕ) → foreignOf d r ≤ columnCount d r
+  pub lower : (r : ℕ) → refersOf d r ≤ pred r
+  pub named : (r : ℕ) → foreignOf d r ≢ 0 → 0 < refersOf d r
+
+-- where a description's order and relation r are read
+pub record Described (d : Description) (order : List (List Bool)) (r : ℕ) : Type 0 where
+  pub order-is : order ≡ orderOf (d .labels) (d .levels)
+  pub levels : d .levels ≤ 16
+  pub relations : d .relations ≤ 8
+  pub least : 0 < r
+  pub relation : r ≤ d .relations
+
+-- where the cells of each relation start
+pub record Starting (d : Description) (ss : List ℕ) : Type 0 where
+  pub long : length ss ≡ 9
+  pub right : (r : ℕ) → r ≤ d .relations → getD ss r 0 ≡ startOf d r
+
+abbrev pub areaOf : Description → List ℕ → ℕ → Area
+areaOf d ss r =
+    record {
+      relation = r;
+      start = getD ss r 0;
+      levels = d .levels;
+      rows = getD (d .rows) r 0;
+      cols = getD (d .columns) r 0;
+      foreign = getD (d .foreign) r 0;
+    }
+
+-- the keys of the first n relations, each from where the relation's cells start
+pub record Keyed (d : Description) (vs : List ℕ) (n : ℕ) (ks : List ℕ) : Type 0 where
+  pub long : length ks ≡ 8192
+  pub right : (r j : ℕ) → r < n → j < d .levels * rowCount d (suc r)
+      → getD ks (startOf d (suc r) + j) 0 ≡ getD vs (startOf d (suc r) + j * columnCount d (suc r)) 0
+
+-- no key stands twice at a level of any relation
+unfoldable pub distinctKeys : Description → List ℕ → Bool
+distinctKeys d ks =
+    allBelow (d .relations) (λ r. allBelow (d .levels) (λ l. allBelow (rowCount d (suc r)) (firstOf ks (startOf d (suc r) + l * rowCount d (suc r)))))
+
+-- every row of a relation is right, and of every relation
+unfoldable pub relationRight : Description → Tables → ℕ → Bool
+relationRight d T r = allBelow (d .levels) (λ l. allBelow (rowCount d r) (λ i. rowRight d T r l i))
+
+unfoldable pub tablesRight : Description → Tables → Bool
+tablesRight d T = allBelow (d .relations) (λ r. relationRight d T (suc r))
+
 -- ---- a relation
 
 -- What is known of a relation: where its cells and its keys stand, and that no key stands twice at a level.
 pub record Ready (d : Description) (vs cs ks : List ℕ) (a : Area) : Type 0 where
   pub levels : Leveled d
   pub named : a .relation ≤ 8
+  pub depth : a .levels ≡ d .levels
   pub rows : a .rows ≡ rowCount d (a .relation)
   pub cols : a .cols ≡ columnCount d (a .relation)
   pub few : a .rows ≤ 64
@@ -109,6 +193,14 @@ pub record Refers (d : Description) (vs cs ks : List ℕ) (a b : Area) : Type 0 
   pub refers : b .relation ≡ refersOf d (a .relation)
   pub column : a .foreign ≤ a .cols
   pub ready : a .foreign ≢ 0 → Ready d vs cs ks b
+
+-- what is known of every relation once it is known that no key stands twice
+pub record Laid (d : Description) (vs cs ks ss : List ℕ) : Type 0 where
+  pub levels : d .levels ≤ 16
+  pub relations : d .relations ≤ 8
+  pub ready : (r : ℕ) → r < d .relations → Ready d vs cs ks (areaOf d ss (suc r))
+  pub refers : (r : ℕ) → r < d .relations → Refers d vs cs ks (areaOf d ss (suc r)) (areaOf d ss (getD (d .refers) (suc r) 0))
+  pub named : (r : ℕ) → r < d .relations → getD (d .refers) (suc r) 0 ≤ 8
 
 -- ---- a row
 

@@ -145,7 +145,7 @@ pub fn cells(
     kc: u8,
 ) -> bool
     requires { ⌜ Ready d (now values) (now classes) (now keys) area × InRow d (now values) (now classes) area level i row key kc ⌝ }
-    requires { ⌜ Ranges d (now ranges) × Between d level kc word ⌝ }
+    requires { ⌜ Ranges d 81 (now ranges) × Between d level kc word ⌝ }
     ensures { λ r. ⌜ r ≡ allBelow (area .cols) (λ k. cellRight d (tablesOf d (now (values .entry)) (now (classes .entry))) (area .relation) level (tablesOf d (now (values .entry)) (now (classes .entry)) (area .relation) level i) (suc k)) ⌝ }
 {
     let column = 9 * area.relation + 1;

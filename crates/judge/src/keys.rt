@@ -1,4 +1,7 @@
 // The keys of the rows, gathered side by side: a search among them, and that none stands twice.
+use super::areas::laid;
+use super::areas::wide;
+use model::Description;
 ghost use mathlib.Core.Path.{_≡_};
 ghost use mathlib.Core.Bool.{true};
 ghost use Prim.Native.Nat.{_+_, _*_, _<_, _≤_};
@@ -6,7 +9,8 @@ ghost use lib.Dec.{eqb};
 ghost use lib.ListN.{length};
 ghost use Rattle.bounded.specs.Tests.{if_then_else_};
 ghost use Rattle.bounded.specs.Bounded.{firstBelow, allBelow};
-ghost use Rattle.judge.specs.Facts.{hasKey, Once, firstOf, Gathered};
+ghost use Rattle.model.specs.Description.{totalOf};
+ghost use Rattle.judge.specs.Facts.{hasKey, Once, firstOf, Gathered, Sane, Starting, Keyed, distinctKeys};
 
 // `i` where `a` is `b`, else 0.
 fn one(a: u32, b: u32, i: u32) -> u32
@@ -65,7 +69,7 @@ fn distinct(keys: &[u32], from: usize, rows: usize) -> bool
 }
 
 // No key stands twice at a level of a relation.
-pub fn levels(keys: &[u32], start: usize, levels: usize, rows: usize) -> bool
+fn levels(keys: &[u32], start: usize, levels: usize, rows: usize) -> bool
     requires { ⌜ (start + levels * rows ≤ length (now keys)) × (rows ≤ 64) × (levels ≤ 16) × (length (now keys) ≤ 8192) ⌝ }
     ensures { λ r. ⌜ r ≡ allBelow levels (λ l. allBelow rows (firstOf (now (keys .entry)) (start + l * rows))) ⌝ }
 {
@@ -81,7 +85,7 @@ pub fn levels(keys: &[u32], start: usize, levels: usize, rows: usize) -> bool
 }
 
 // The keys of a relation, from the first cell of each of its `n` rows.
-pub fn gather(values: &[u32], keys: &mut [u32], start: usize, n: usize, cols: usize)
+fn gather(values: &[u32], keys: &mut [u32], start: usize, n: usize, cols: usize)
     requires { ⌜ (start + n ≤ length (now keys)) × (start + n * cols ≤ length (now values)) × (0 < cols) ⌝ }
     requires { ⌜ (length (now keys) ≤ 8192) × (length (now values) ≤ 8192) ⌝ }
     ensures { λ _. ⌜ Gathered (now (values .entry)) (now (keys .entry)) (now (keys .exit)) start n cols ⌝ }
@@ -92,4 +96,37 @@ pub fn gather(values: &[u32], keys: &mut [u32], start: usize, n: usize, cols: us
         keys[start + i] = values[p];
         i += 1;
     }
+}
+
+// The keys of every relation, each from where the relation's cells start in `values`.
+pub fn fill(values: &[u32], keys: &mut [u32], d: Description, starts: [usize; 9])
+    requires { ⌜ Sane d × Starting d starts ⌝ }
+    requires { ⌜ (length (now values) ≡ totalOf d) × (length (now keys) ≡ 8192) ⌝ }
+    ensures { λ _. ⌜ Keyed d (now (values .entry)) (d .relations) (now (keys .exit)) ⌝ }
+{
+    let n = wide(d.relations);
+    let mut r = 0;
+    while r < n {
+        let area = laid(d, starts, r + 1);
+        gather(values, keys, area.start, area.levels * area.rows, area.cols);
+        r += 1;
+    }
+}
+
+// No key stands twice at a level of any relation.
+pub fn relations(keys: &[u32], d: Description, starts: [usize; 9]) -> bool
+    requires { ⌜ Sane d × Starting d starts ⌝ }
+    requires { ⌜ length (now keys) ≡ 8192 ⌝ }
+    ensures { λ r. ⌜ r ≡ distinctKeys d (now (keys .entry)) ⌝ }
+{
+    let n = wide(d.relations);
+    let mut r = 0;
+    while r < n {
+        let area = laid(d, starts, r + 1);
+        if !levels(keys, area.start, area.levels, area.rows) {
+            return false;
+        }
+        r += 1;
+    }
+    true
 }

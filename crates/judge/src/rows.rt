@@ -1,104 +1,17 @@
 // The rows of every relation and level.
 use super::areas::Area;
 use super::areas::at;
+use super::areas::laid;
+use super::areas::wide;
 use super::cells::cells;
 use super::cells::empty;
-use super::keys::find;
+use super::references::reference;
 use model::Description;
 ghost use mathlib.Core.Path.{_≡_};
-ghost use Prim.Native.Nat.{_<_, _≤_};
+ghost use Prim.Native.Nat.{suc, _<_};
 ghost use Rattle.bounded.specs.Bounded.{allBelow};
-ghost use Rattle.model.specs.Tables.{cell, place};
-ghost use Rattle.model.specs.Description.{foreignOf};
-ghost use Rattle.model.specs.Judge.{referenceRight, rowRight};
-ghost use Rattle.judge.specs.Facts.{tablesOf, namesRight, rightRow, Ready, Asked, InRow, Spot, Ranges, Orders, Refers};
-
-// The row with a key at a level, or the number of rows.
-fn sought(
-    values: &[u32],
-    classes: &[u8],
-    keys: &[u32],
-    d: Description,
-    area: Area,
-    key: u32,
-    level: usize,
-) -> usize
-    requires { ⌜ Ready d (now values) (now classes) (now keys) area ⌝ }
-    requires { ⌜ Asked d level key ⌝ }
-    ensures { λ r. ⌜ (r ≡ place (area .rows) (tablesOf d (now (values .entry)) (now (classes .entry)) (area .relation) level) key) × (r ≤ area .rows) ⌝ }
-{
-    let rows = area.rows;
-    let from = area.start + level * rows;
-    find(keys, from, rows, key)
-}
-
-// A reference (`v`, `c`) that is not null, of a row at a level, to the relation of `area`.
-fn names(
-    values: &[u32],
-    classes: &[u8],
-    keys: &[u32],
-    d: Description,
-    area: Area,
-    levels: usize,
-    level: usize,
-    v: u32,
-    c: u8,
-) -> bool
-    requires { ⌜ Ready d (now values) (now classes) (now keys) area × (levels ≡ d .levels) ⌝ }
-    requires { ⌜ Asked d level v ⌝ }
-    ensures { λ r. ⌜ r ≡ namesRight d (tablesOf d (now (values .entry)) (now (classes .entry))) (area .relation) level (cell v c) ⌝ }
-{
-    let e = c as usize;
-    if levels <= e {
-        return false;
-    }
-    let rows = area.rows;
-    let i = sought(values, classes, keys, d, area, v, level);
-    if i == rows {
-        return false;
-    }
-    if e == level {
-        return true;
-    }
-    let j = sought(values, classes, keys, d, area, v, e);
-    if j == rows {
-        return false;
-    }
-    let p = at(area, e, j);
-    let q = at(area, level, i);
-    classes[p] == classes[q]
-}
-
-// The reference of a row with a key.
-fn reference(
-    values: &[u32],
-    classes: &[u8],
-    keys: &[u32],
-    d: Description,
-    area: Area,
-    target: Area,
-    levels: usize,
-    level: usize,
-    i: usize,
-    row: usize,
-) -> bool
-    requires { ⌜ Ready d (now values) (now classes) (now keys) area × Spot d area level i row × (levels ≡ d .levels) ⌝ }
-    requires { ⌜ Refers d (now values) (now classes) (now keys) area target ⌝ }
-    ensures { λ r. ⌜ r ≡ referenceRight d (tablesOf d (now (values .entry)) (now (classes .entry))) (area .relation) level (tablesOf d (now (values .entry)) (now (classes .entry)) (area .relation) level i (foreignOf d (area .relation))) ⌝ }
-{
-    let foreign = area.foreign;
-    if foreign == 0 {
-        return true;
-    }
-    let k = foreign - 1;
-    let place = row + k;
-    let v = values[place];
-    if v == 0 {
-        return true;
-    }
-    let c = classes[place];
-    names(values, classes, keys, d, target, levels, level, v, c)
-}
+ghost use Rattle.model.specs.Judge.{rowRight};
+ghost use Rattle.judge.specs.Facts.{tablesOf, rightRow, Ready, InRow, Ranges, Orders, Refers, Laid, relationRight, tablesRight};
 
 // A row with a key.
 fn keyed(
@@ -111,15 +24,14 @@ fn keyed(
     d: Description,
     area: Area,
     target: Area,
-    levels: usize,
     level: usize,
     i: usize,
     row: usize,
     key: u32,
     kc: u8,
 ) -> bool
-    requires { ⌜ Ready d (now values) (now classes) (now keys) area × InRow d (now values) (now classes) area level i row key kc × (levels ≡ d .levels) ⌝ }
-    requires { ⌜ Ranges d (now ranges) × Orders d (now below) (now above) × Refers d (now values) (now classes) (now keys) area target ⌝ }
+    requires { ⌜ Ready d (now values) (now classes) (now keys) area × InRow d (now values) (now classes) area level i row key kc ⌝ }
+    requires { ⌜ Ranges d 81 (now ranges) × Orders d (now below) (now above) × Refers d (now values) (now classes) (now keys) area target ⌝ }
     ensures { λ r. ⌜ r ≡ rightRow d (tablesOf d (now (values .entry)) (now (classes .entry))) (area .relation) level (tablesOf d (now (values .entry)) (now (classes .entry)) (area .relation) level i) ⌝ }
 {
     if 16 <= kc {
@@ -142,18 +54,7 @@ fn keyed(
     ) {
         return false;
     }
-    reference(
-        values,
-        classes,
-        keys,
-        d,
-        area,
-        target,
-        levels,
-        level,
-        i,
-        row,
-    )
+    reference(values, classes, keys, d, area, target, level, i, row)
 }
 
 // A row.
@@ -167,12 +68,11 @@ fn row(
     d: Description,
     area: Area,
     target: Area,
-    levels: usize,
     level: usize,
     i: usize,
 ) -> bool
-    requires { ⌜ Ready d (now values) (now classes) (now keys) area × (level < d .levels) × (i < area .rows) × (levels ≡ d .levels) ⌝ }
-    requires { ⌜ Ranges d (now ranges) × Orders d (now below) (now above) × Refers d (now values) (now classes) (now keys) area target ⌝ }
+    requires { ⌜ Ready d (now values) (now classes) (now keys) area × (level < d .levels) × (i < area .rows) ⌝ }
+    requires { ⌜ Ranges d 81 (now ranges) × Orders d (now below) (now above) × Refers d (now values) (now classes) (now keys) area target ⌝ }
     ensures { λ r. ⌜ r ≡ rowRight d (tablesOf d (now (values .entry)) (now (classes .entry))) (area .relation) level i ⌝ }
 {
     let row = at(area, level, i);
@@ -191,7 +91,6 @@ fn row(
         d,
         area,
         target,
-        levels,
         level,
         i,
         row,
@@ -211,11 +110,10 @@ fn rows(
     d: Description,
     area: Area,
     target: Area,
-    levels: usize,
     level: usize,
 ) -> bool
-    requires { ⌜ Ready d (now values) (now classes) (now keys) area × (level < d .levels) × (levels ≡ d .levels) ⌝ }
-    requires { ⌜ Ranges d (now ranges) × Orders d (now below) (now above) × Refers d (now values) (now classes) (now keys) area target ⌝ }
+    requires { ⌜ Ready d (now values) (now classes) (now keys) area × (level < d .levels) ⌝ }
+    requires { ⌜ Ranges d 81 (now ranges) × Orders d (now below) (now above) × Refers d (now values) (now classes) (now keys) area target ⌝ }
     ensures { λ r. ⌜ r ≡ allBelow (area .rows) (λ i. rowRight d (tablesOf d (now (values .entry)) (now (classes .entry))) (area .relation) level i) ⌝ }
 {
     let rows = area.rows;
@@ -231,7 +129,6 @@ fn rows(
             d,
             area,
             target,
-            levels,
             level,
             i,
         ) {
@@ -243,7 +140,7 @@ fn rows(
 }
 
 // The levels of a relation.
-pub fn levels(
+fn levels(
     values: &[u32],
     classes: &[u8],
     keys: &[u32],
@@ -253,14 +150,14 @@ pub fn levels(
     d: Description,
     area: Area,
     target: Area,
-    levels: usize,
 ) -> bool
-    requires { ⌜ Ready d (now values) (now classes) (now keys) area × (levels ≡ d .levels) ⌝ }
-    requires { ⌜ Ranges d (now ranges) × Orders d (now below) (now above) × Refers d (now values) (now classes) (now keys) area target ⌝ }
-    ensures { λ r. ⌜ r ≡ allBelow levels (λ l. allBelow (area .rows) (λ i. rowRight d (tablesOf d (now (values .entry)) (now (classes .entry))) (area .relation) l i)) ⌝ }
+    requires { ⌜ Ready d (now values) (now classes) (now keys) area ⌝ }
+    requires { ⌜ Ranges d 81 (now ranges) × Orders d (now below) (now above) × Refers d (now values) (now classes) (now keys) area target ⌝ }
+    ensures { λ r. ⌜ r ≡ allBelow (area .levels) (λ l. allBelow (area .rows) (λ i. rowRight d (tablesOf d (now (values .entry)) (now (classes .entry))) (area .relation) l i)) ⌝ }
 {
+    let count = area.levels;
     let mut level = 0;
-    while level < levels {
+    while level < count {
         if !rows(
             values,
             classes,
@@ -271,12 +168,59 @@ pub fn levels(
             d,
             area,
             target,
-            levels,
             level,
         ) {
             return false;
         }
         level += 1;
+    }
+    true
+}
+
+// Relation r + 1.
+fn relation(
+    values: &[u32],
+    classes: &[u8],
+    keys: &[u32],
+    ranges: &[u16],
+    below: &[u16],
+    above: &[u16],
+    d: Description,
+    starts: [usize; 9],
+    r: usize,
+) -> bool
+    requires { ⌜ Laid d (now values) (now classes) (now keys) starts × (r < d .relations) ⌝ }
+    requires { ⌜ Ranges d 81 (now ranges) × Orders d (now below) (now above) ⌝ }
+    ensures { λ b. ⌜ b ≡ relationRight d (tablesOf d (now (values .entry)) (now (classes .entry))) (suc r) ⌝ }
+{
+    let area = laid(d, starts, r + 1);
+    let refers = wide(d.refers[r + 1]);
+    let target = laid(d, starts, refers);
+    levels(values, classes, keys, ranges, below, above, d, area, target)
+}
+
+// Every row of every relation.
+pub fn tables(
+    values: &[u32],
+    classes: &[u8],
+    keys: &[u32],
+    ranges: &[u16],
+    below: &[u16],
+    above: &[u16],
+    d: Description,
+    starts: [usize; 9],
+) -> bool
+    requires { ⌜ Laid d (now values) (now classes) (now keys) starts ⌝ }
+    requires { ⌜ Ranges d 81 (now ranges) × Orders d (now below) (now above) ⌝ }
+    ensures { λ b. ⌜ b ≡ tablesRight d (tablesOf d (now (values .entry)) (now (classes .entry))) ⌝ }
+{
+    let n = wide(d.relations);
+    let mut r = 0;
+    while r < n {
+        if !relation(values, classes, keys, ranges, below, above, d, starts, r) {
+            return false;
+        }
+        r += 1;
     }
     true
 }

@@ -4,26 +4,19 @@ use native.Mathlib.Nat.{le-mul-of-pos-right}
 use borrow.Author.Needs.{needs}
 use Rattle.judge.proofs.areas.at.Statement.{statement}
 use Rattle.judge.proofs.areas.at.Tie as tie
-use Rattle.judge.proofs.areas.at.Reads as reads
-use Rattle.judge.proofs.areas.at.Lts as lts
 
--- src/lib.rt:53:14
 mul-result : tie.Need-mul-result
 mul-result c = omega (arith, le-mul-of-pos-right (c .before .args .level * c .before .args .area .rows + c .before .args .i) (c .before .pre .1))
 
--- src/lib.rt:53:14
 add-result : tie.Need-add-result
 add-result c = omega (arith, le-mul-of-pos-right (c .before .args .level * c .before .args .area .rows + c .before .args .i) (c .before .pre .1))
 
--- src/lib.rt:53:13
 mul-result-2 : tie.Need-mul-result-2
 mul-result-2 c = search needs
 
--- src/lib.rt:53:5
 add-result-2 : tie.Need-add-result-2
 add-result-2 c = search needs
 
--- src/lib.rt:49:1
 returns : tie.Need-returns
 returns c = search needs
 

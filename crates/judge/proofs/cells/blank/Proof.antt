@@ -1,35 +1,27 @@
-use Prim.Native.Nat.{ℕ, suc, _+_, _*_, _≤_, _<_}
+use Prim.Native.Nat.{_+_, _*_, _<_}
 use native.Mathlib.Omega.{arith}
 use Rattle.judge.proofs.Columns.{stood-spot, stood-full, stood-null}
 use Rattle.judge.proofs.cells.blank.Statement.{statement}
 use Rattle.judge.proofs.cells.blank.Tie as tie
-use Rattle.judge.proofs.cells.blank.Reads as reads
-use Rattle.judge.proofs.cells.blank.Lts as lts
 
 near : (s : tie.Start) → let a = s .args in a .row + a .k < a .area .start + a .d .levels * a .area .rows * a .area .cols
 near s = stood-spot _ _ _ _ _ (s .pre .0 .0) _ _ _ _ (s .pre .1 .level) (s .pre .1 .below) (s .pre .1 .stands) (s .pre .0 .1)
 
--- src/lib.rt:275:14
 add-place : tie.Need-add-place
 add-place c = omega (arith, near c, c .pre .0 .0 .values, c .pre .0 .0 .size)
 
--- src/lib.rt:276:8
 mul-if1 : tie.Need-mul-if1
 mul-if1 c = omega (arith, near c, c .pre .0 .0 .values, c .pre .0 .0 .size)
 
--- src/lib.rt:276:8
 shared-slice-read-if1 : tie.Need-shared-slice-read-if1
 shared-slice-read-if1 c = omega (arith, near (c .before), c .before .pre .0 .0 .values)
 
--- src/lib.rt:277:9
 returns : tie.Need-returns
 returns c = let s = c .before .before in stood-full _ _ _ _ _ (s .pre .0 .0) _ _ _ _ (s .pre .1 .level) (s .pre .1 .below) (s .pre .1 .stands) (s .pre .0 .1) (c .if1 .taken)
 
--- src/lib.rt:279:5
 shared-slice-read-result : tie.Need-shared-slice-read-result
 shared-slice-read-result c = omega (arith, near (c .before .before .before), c .before .before .before .pre .0 .0 .classes)
 
--- src/lib.rt:256:1
 returns-2 : tie.Need-returns-2
 returns-2 c = let s = c .before .before .before in stood-null _ _ _ _ _ (s .pre .0 .0) _ _ _ _ (s .pre .1 .level) (s .pre .1 .below) (s .pre .1 .stands) (s .pre .0 .1) (c .before .if1 .left)
 

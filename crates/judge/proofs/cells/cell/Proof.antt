@@ -1,70 +1,52 @@
-use Prim.Native.Nat.{ℕ, suc, _+_, _*_, _≤_, _<_}
-use mathlib.Core.Path.{_≡_, refl, sym, _∙_}
-use mathlib.Core.Bool.{true, false}
+use Prim.Native.Nat.{_+_, _*_, _<_}
 use native.Mathlib.Omega.{arith}
 use borrow.Author.Tests.{not-true, not-false}
 use Rattle.judge.proofs.Columns.{at-spot, at-null, at-unfit, at-level, at-own, at-lent}
 use borrow.Author.Needs.{needs}
 use Rattle.judge.proofs.cells.cell.Statement.{statement}
 use Rattle.judge.proofs.cells.cell.Tie as tie
-use Rattle.judge.proofs.cells.cell.Reads as reads
-use Rattle.judge.proofs.cells.cell.Lts as lts
-use Rattle.judge.proofs.cells.cached.Reads as cached-reads
-use Rattle.judge.proofs.words.has.Reads as has-reads
-use Rattle.judge.proofs.cells.lent.Reads as lent-reads
 
 near : (s : tie.Start) → let a = s .args in a .row + a .k < a .area .start + a .d .levels * a .area .rows * a .area .cols
 near s = at-spot _ _ _ _ _ (s .pre .0 .0) _ _ _ _ _ _ (s .pre .0 .1) (s .pre .0 .2)
 
--- src/lib.rt:174:14
 add-place : tie.Need-add-place
 add-place c = let s = c .before .before .before .before in omega (arith, near s, s .pre .0 .0 .values, s .pre .0 .0 .size)
 
--- src/lib.rt:175:13
 shared-slice-read-c : tie.Need-shared-slice-read-c
 shared-slice-read-c c = let s = c .before .before .before .before .before in omega (arith, near s, s .pre .0 .0 .classes)
 
--- src/lib.rt:176:13
 mul-v : tie.Need-mul-v
 mul-v c = let s = c .before .before .before .before .before in omega (arith, near s, s .pre .0 .0 .values, s .pre .0 .0 .size)
 
--- src/lib.rt:176:13
 shared-slice-read-v : tie.Need-shared-slice-read-v
 shared-slice-read-v c = let s = c .before .before .before .before .before .before in omega (arith, near s, s .pre .0 .0 .values)
 
--- src/lib.rt:178:9
 returns : tie.Need-returns
 returns c =
     let s = c .before .before .before .before .before .before .before in
     (at-null _ _ _ _ _ (s .pre .0 .0) _ _ _ _ _ _ (s .pre .0 .1) (s .pre .0 .2) (c .if1 .taken), s .pre .1 .1)
 
--- src/lib.rt:180:9
 has-requires : tie.Need-has-requires
 has-requires c κs = search needs
 
--- src/lib.rt:181:9
 returns-2 : tie.Need-returns-2
 returns-2 c =
     let s = c .before .before .before .before .before .before .before .before .before in
     (at-unfit _ _ _ _ _ (s .pre .0 .0) _ _ _ _ _ _ (s .pre .0 .1) (s .pre .0 .2) _ (s .pre .1 .0) (c .before .has .ensures) (c .before .before .if1 .left) (not-true _ (c .if2 .taken)), s .pre .1 .1)
 
--- src/lib.rt:183:13
 cast-e : tie.Need-cast-e
 cast-e c = omega (arith, c .before .before .before .before .shared-slice-known4 .given (c .before .before .before .before .before .before .before .before .before .args .row + c .before .before .before .before .before .before .before .before .before .args .k))
 
--- src/lib.rt:185:9
 returns-3 : tie.Need-returns-3
 returns-3 c =
     let s = c .before .before .before .before .before .before .before .before .before .before in
     (at-own _ _ _ _ _ (s .pre .0 .0) _ _ _ _ _ _ (s .pre .0 .1) (s .pre .0 .2) _ (s .pre .1 .0) (c .before .before .has .ensures) (c .before .before .before .if1 .left) (not-false _ (c .before .if2 .left)) (c .if3 .taken), s .pre .1 .1)
 
--- src/lib.rt:187:9
 cached-requires : tie.Need-cached-requires
 cached-requires c κs =
     let s = c .before .before .before .before .before .before .before .before .before .before .before in
     ((s .pre .0 .0, record { level = at-level _ _ _ _ _ (s .pre .0 .0) _ _ _ _ _ _ (s .pre .0 .1) (s .pre .0 .2) _ (s .pre .1 .0) (c .before .before .before .has .ensures) (not-false _ (c .before .before .if2 .left)); key = s .pre .0 .1 .real }), s .pre .1 .1)
 
--- src/lib.rt:188:5
 lent-requires : tie.Need-lent-requires
 lent-requires c κs =
     let s = c .before .before .before .before .before .before .before .before .before .before .before .before .before .before in (
@@ -72,11 +54,9 @@ lent-requires c κs =
       (c .before .before .cached .ensures .0, s .pre .0 .2),
     )
 
--- src/lib.rt:151:1
 same-length : tie.Need-same-length
 same-length c = search needs
 
--- src/lib.rt:151:1
 returns-4 : tie.Need-returns-4
 returns-4 c =
     let s = c .before .before .before .before .before .before .before .before .before .before .before .before .before .before .before in

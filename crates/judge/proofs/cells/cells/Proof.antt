@@ -1,4 +1,4 @@
-use Prim.Native.Nat.{ℕ, suc, _+_, _*_, _-_, _≤_, _<_}
+use Prim.Native.Nat.{suc, _-_, _≤_}
 use mathlib.Core.Bool.{true}
 use mathlib.Core.Path.{_≡_, refl, sym}
 use native.Mathlib.Omega.{arith}
@@ -6,16 +6,12 @@ use borrow.Author.Needs.{needs}
 use borrow.Author.Tests.{not-true, not-false}
 use Rattle.bounded.specs.Bounded.{allBelow}
 use Rattle.bounded.proofs.All.{all-start, all-more, all-fails, all-end}
-use Rattle.judge.specs.Facts.{tablesOf}
+use Rattle.judge.specs.Facts.{tablesOf, Known}
 use Rattle.model.specs.Judge.{cellRight}
-use Rattle.judge.specs.Facts.{Known}
 use Rattle.judge.proofs.Places.{known-none}
 use Rattle.judge.proofs.Columns.{fitting}
 use Rattle.judge.proofs.cells.cells.Statement.{statement}
 use Rattle.judge.proofs.cells.cells.Tie as tie
-use Rattle.judge.proofs.cells.cells.Reads as reads
-use Rattle.judge.proofs.cells.cells.Lts as lts
-use Rattle.judge.proofs.cells.cell.Reads as cell-reads
 
 abbrev Inv-loop : tie.InvT-loop
 Inv-loop values classes keys ranges d area level i row word key kc column cols cache₀ k₀ cache k = (k ≤ area .cols) × (allBelow k (λ j. cellRight d (tablesOf d values classes) (area .relation) level (tablesOf d values classes (area .relation) level i) (suc j)) ≡ true) × Known d (tablesOf d values classes) area key kc cache
@@ -29,47 +25,36 @@ mul-column c = let s = c .before .before .before .before .before in omega (arith
 add-column : tie.Need-add-column Inv-loop μ-loop
 add-column c = let s = c .before .before .before .before .before in omega (arith, s .pre .0 .0 .named)
 
--- src/lib.rt:217:5
 loop-holds : tie.Need-loop-holds Inv-loop μ-loop
 loop-holds c = let s = c .before .before .before .before .before in (omega arith, all-start _, known-none _ _ _ _ _ (s .pre .0 .0 .levels .few))
 
--- src/lib.rt:218:26
 add-fit : tie.Need-add-fit Inv-loop μ-loop
 add-fit c = let s = c .before .before .before .before .before .before .before in omega (arith, s .pre .1 .0 .long, s .pre .0 .0 .named, s .pre .0 .0 .wide)
 
--- src/lib.rt:218:19
 mul-fit : tie.Need-mul-fit Inv-loop μ-loop
 mul-fit c = let s = c .before .before .before .before .before .before .before in omega (arith, s .pre .1 .0 .long, s .pre .0 .0 .named, s .pre .0 .0 .wide)
 
--- src/lib.rt:218:19
 shared-slice-read-fit : tie.Need-shared-slice-read-fit Inv-loop μ-loop
 shared-slice-read-fit c = let s = c .before .before .before .before .before .before .before .before in omega (arith, s .pre .1 .0 .long, s .pre .0 .0 .named, s .pre .0 .0 .wide)
 
--- src/lib.rt:219:47
 slice-aggregate-cell : tie.Need-slice-aggregate-cell Inv-loop μ-loop
 slice-aggregate-cell c = search needs
 
--- src/lib.rt:219:13
 cell-requires : tie.Need-cell-requires Inv-loop μ-loop
 cell-requires c κs = let s = c .before .before .before .before .before .before .before .before .before in ((s .pre .0 .0, s .pre .0 .1, c .before .before .loop-test .taken), (fitting _ _ _ _ _ _ _ _ _ _ _ (s .pre .0 .0) (s .pre .1 .0) (s .pre .1 .1) (c .before .before .loop-test .taken) refl, c .before .before .before .loop .inv .2))
 
--- src/lib.rt:220:13
 returns : tie.Need-returns Inv-loop μ-loop
 returns c = sym (all-fails _ _ _ (c .before .before .cell .ensures .0) (not-true _ (c .if1 .taken)) (c .before .before .before .before .before .loop-test .taken))
 
--- src/lib.rt:222:9
 add-k : tie.Need-add-k Inv-loop μ-loop
 add-k c = let s = c .before .before .before .before .before .before .before .before .before .before .before .before in omega (arith, s .pre .0 .0 .wide)
 
--- src/lib.rt:217:5
 loop-less : tie.Need-loop-less Inv-loop μ-loop
 loop-less c = omega arith
 
--- src/lib.rt:217:5
 loop-again : tie.Need-loop-again Inv-loop μ-loop
 loop-again c = let l = c .before .before .before .before .before .before .loop in (omega arith, all-more (l .k) _ (l .inv .1) (c .before .before .cell .ensures .0) (not-false _ (c .if1 .left)), c .before .before .cell .ensures .1)
 
--- src/lib.rt:192:1
 returns-2 : tie.Need-returns-2 Inv-loop μ-loop
 returns-2 c = let l = c .before .loop in sym (all-end _ (l .k) _ (l .inv .1) (l .inv .0) (c .loop-test .left))
 

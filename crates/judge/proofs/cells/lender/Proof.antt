@@ -1,41 +1,29 @@
-use Prim.Native.Nat.{ℕ, _+_, _*_, _≤_, _<_}
-use mathlib.Core.Path.{_≡_, refl, sym, _∙_}
+use Prim.Native.Nat.{_<_}
 use native.Mathlib.Omega.{arith}
-use borrow.Author.Needs.{needs}
 use Rattle.judge.proofs.Places.{block, spot, spot-row, lender-absent, lender-other, lender-is}
 use Rattle.judge.proofs.cells.lender.Statement.{statement}
 use Rattle.judge.proofs.cells.lender.Tie as tie
-use Rattle.judge.proofs.cells.lender.Reads as reads
-use Rattle.judge.proofs.cells.lender.Lts as lts
-use Rattle.judge.proofs.keys.find.Reads as find-reads
-use Rattle.judge.proofs.areas.at.Reads as at-reads
 
--- src/lib.rt:77:24
 mul-from : tie.Need-mul-from
 mul-from c = let s = c .before .before .before in omega (arith, block _ _ _ _ _ (s .pre .0) (s .args .level) (s .pre .1 .level))
 
--- src/lib.rt:77:16
 add-from : tie.Need-add-from
 add-from c = let s = c .before .before .before .before in omega (arith, block _ _ _ _ _ (s .pre .0) (s .args .level) (s .pre .1 .level))
 
--- src/lib.rt:78:9
 find-requires : tie.Need-find-requires
 find-requires c κs = let s = c .before .before .before .before in ((block _ _ _ _ _ (s .pre .0) (s .args .level) (s .pre .1 .level), s .pre .0 .few), s .pre .0 .once _ _ (s .pre .1 .level) (s .pre .1 .key))
 
--- src/lib.rt:80:9
 returns : tie.Need-returns
 returns c =
     let s = c .before .before .before .before .before .before in
     (lender-absent _ _ _ _ _ (s .pre .0) (s .args .level) (s .args .key) (s .args .kc) (s .pre .1 .level) (c .before .find .ensures .0) (c .if1 .taken), omega arith)
 
--- src/lib.rt:82:9
 at-requires : tie.Need-at-requires
 at-requires c κs =
     let s = c .before .before .before .before .before .before in
     let h : c .before .find .result < s .args .area .rows = omega arith in
     (spot-row _ _ _ _ _ (s .pre .0) (s .args .level) (c .before .find .result) (s .pre .1 .level) h, s .pre .0 .keyed)
 
--- src/lib.rt:83:8
 shared-slice-read-if2 : tie.Need-shared-slice-read-if2
 shared-slice-read-if2 c =
     let s = c .before .before .before .before .before .before .before .before in
@@ -43,7 +31,6 @@ shared-slice-read-if2 c =
     let h : f .result < s .args .area .rows = omega arith in
     omega (arith, c .before .at .ensures, spot _ _ _ _ _ (s .pre .0) (s .args .level) (f .result) 0 (s .pre .1 .level) h (s .pre .0 .keyed), s .pre .0 .classes)
 
--- src/lib.rt:84:9
 returns-2 : tie.Need-returns-2
 returns-2 c =
     let s = c .before .before .before .before .before .before .before .before .before in
@@ -51,7 +38,6 @@ returns-2 c =
     let h : f .result < s .args .area .rows = omega arith in
     (lender-other _ _ _ _ _ (s .pre .0) (s .args .level) (s .args .key) (s .args .kc) (s .pre .1 .level) (f .ensures .0) h (c .before .before .at .ensures) (c .if2 .taken), omega arith)
 
--- src/lib.rt:59:1
 returns-3 : tie.Need-returns-3
 returns-3 c =
     let s = c .before .before .before .before .before .before .before .before .before in

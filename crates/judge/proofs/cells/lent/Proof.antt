@@ -1,5 +1,5 @@
-use Prim.Native.Nat.{ℕ, suc, _+_, _*_, _≤_, _<_}
-use mathlib.Core.Path.{_≡_, refl, sym, _∙_}
+use Prim.Native.Nat.{suc, _+_, _*_, _<_}
+use mathlib.Core.Path.{sym, _∙_}
 use native.Mathlib.Omega.{arith}
 use Rattle.judge.specs.Facts.{tablesOf}
 use Rattle.judge.proofs.Places.{Lent, lends-none, lends-some, lent-spot, lent-other, lent-same, same-class}
@@ -20,35 +20,28 @@ near c =
     let s = c .before in
     lent-spot _ _ _ _ _ (s .pre .0 .0) (s .args .c) (s .args .key) (s .args .kc) (s .pre .0 .1 .level) (s .args .k) (s .args .p) (s .pre .1 .1) (from c)
 
--- src/lib.rt:141:9
 returns : tie.Need-returns
 returns c =
     let s = c .before in
     rw (lends-none _ _ _ _ _ (s .pre .0 .0) (s .args .c) (s .args .key) (s .args .kc) (suc (s .args .k)) (s .pre .0 .1 .level) (s .pre .0 .1 .key) (sym (s .pre .1 .0) ∙ c .if1 .taken)) (same-class (s .args .v) 0 (s .args .c))
 
--- src/lib.rt:143:14
 add-place : tie.Need-add-place
 add-place c = omega (arith, near c, c .before .pre .0 .0 .values, c .before .pre .0 .0 .size)
 
--- src/lib.rt:144:8
 shared-slice-read-if2 : tie.Need-shared-slice-read-if2
 shared-slice-read-if2 c = omega (arith, near (c .before), c .before .before .pre .0 .0 .classes)
 
--- src/lib.rt:145:9
 returns-2 : tie.Need-returns-2
 returns-2 c =
     let s = c .before .before .before in
     rw (lent-other _ _ _ _ _ (s .pre .0 .0) (s .args .c) (s .args .key) (s .args .kc) (s .pre .0 .1 .level) (s .args .k) (s .args .p) (s .pre .1 .1) (from (c .before .before)) (c .if2 .taken)) (same-class (s .args .v) 0 (s .args .c))
 
--- src/lib.rt:147:5
 mul-result : tie.Need-mul-result
 mul-result c = omega (arith, near (c .before .before), c .before .before .before .pre .0 .0 .values, c .before .before .before .pre .0 .0 .size)
 
--- src/lib.rt:147:5
 shared-slice-read-result : tie.Need-shared-slice-read-result
 shared-slice-read-result c = omega (arith, near (c .before .before .before), c .before .before .before .before .pre .0 .0 .values)
 
--- src/lib.rt:119:1
 returns-3 : tie.Need-returns-3
 returns-3 c =
     let s = c .before .before .before .before in

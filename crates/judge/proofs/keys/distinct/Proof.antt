@@ -1,4 +1,4 @@
-use Prim.Native.Nat.{ℕ, suc, _+_, _*_, _-_, _≤_, _<_}
+use Prim.Native.Nat.{_-_, _≤_}
 use mathlib.Core.Bool.{true}
 use mathlib.Core.Path.{_≡_, sym}
 use native.Mathlib.Omega.{arith}
@@ -8,9 +8,6 @@ use Rattle.bounded.proofs.All.{all-start, all-more, all-fails, all-end}
 use Rattle.judge.specs.Facts.{firstOf}
 use Rattle.judge.proofs.keys.distinct.Statement.{statement}
 use Rattle.judge.proofs.keys.distinct.Tie as tie
-use Rattle.judge.proofs.keys.distinct.Reads as reads
-use Rattle.judge.proofs.keys.distinct.Lts as lts
-use Rattle.judge.proofs.keys.fresh.Reads as fresh-reads
 
 abbrev Inv-loop : tie.InvT-loop
 Inv-loop keys from rows i₀ i = (i ≤ rows) × (allBelow i (firstOf keys from) ≡ true)
@@ -18,31 +15,24 @@ Inv-loop keys from rows i₀ i = (i ≤ rows) × (allBelow i (firstOf keys from)
 abbrev μ-loop : tie.MeasureT-loop
 μ-loop keys from rows i₀ i = rows - i
 
--- src/lib.rt:544:5
 loop-holds : tie.Need-loop-holds Inv-loop μ-loop
 loop-holds c = (omega arith, all-start _)
 
--- src/lib.rt:545:13
 fresh-requires : tie.Need-fresh-requires Inv-loop μ-loop
 fresh-requires c κs = let s = c .before .before .before in ((s .pre .0, s .pre .1, c .loop-test .taken), c .before .loop .inv .1)
 
--- src/lib.rt:546:13
 returns : tie.Need-returns Inv-loop μ-loop
 returns c = sym (all-fails _ _ _ (c .before .fresh .ensures) (not-true _ (c .if1 .taken)) (c .before .before .loop-test .taken))
 
--- src/lib.rt:548:9
 add-i : tie.Need-add-i Inv-loop μ-loop
 add-i c = omega arith
 
--- src/lib.rt:544:5
 loop-less : tie.Need-loop-less Inv-loop μ-loop
 loop-less c = omega arith
 
--- src/lib.rt:544:5
 loop-again : tie.Need-loop-again Inv-loop μ-loop
 loop-again c = let l = c .before .before .before .loop in (omega arith, all-more (l .i) _ (l .inv .1) (c .before .fresh .ensures) (not-false _ (c .if1 .left)))
 
--- src/lib.rt:539:1
 returns-2 : tie.Need-returns-2 Inv-loop μ-loop
 returns-2 c = let l = c .before .loop in sym (all-end _ (l .i) _ (l .inv .1) (l .inv .0) (c .loop-test .left))
 

@@ -1,8 +1,6 @@
-use Prim.Native.Nat.{ℕ, _+_, _≤_, _<_, _-_}
-use mathlib.Core.Path.{_≡_, refl, sym, _∙_}
+use Prim.Native.Nat.{ℕ, _+_, _≤_, _-_}
 use native.Mathlib.Omega.{arith}
 use borrow.Author.Needs.{needs}
-use Rattle.bounded.specs.Bounded.{firstBelow}
 use Rattle.bounded.proofs.Cases.{at-end}
 use Rattle.judge.specs.Facts.{hasKey}
 use Rattle.judge.proofs.Search.{Sought, sought-none, sought-le, sought-more, sought-zero, sought-some}
@@ -30,64 +28,49 @@ ended c =
     let a = c .before .before .before .args in
     at-end (λ (n : ℕ). Sought n (hasKey (a .keys .now) (a .from) (a .key)) (c .before .loop .found)) (c .before .loop .inv .0) (c .loop-test .left) (c .before .loop .inv .2)
 
--- src/lib.rt:28:5
 loop-holds : tie.Need-loop-holds Inv-loop μ-loop
 loop-holds c = (omega arith, omega arith, sought-none _)
 
--- src/lib.rt:29:34
 add-one : tie.Need-add-one Inv-loop μ-loop
 add-one c = omega arith
 
--- src/lib.rt:29:29
 mul-one : tie.Need-mul-one Inv-loop μ-loop
 mul-one c = omega arith
 
--- src/lib.rt:29:29
 shared-slice-read-one : tie.Need-shared-slice-read-one Inv-loop μ-loop
 shared-slice-read-one c = omega arith
 
--- src/lib.rt:29:50
 cast-one : tie.Need-cast-one Inv-loop μ-loop
 cast-one c = omega arith
 
--- src/lib.rt:29:50
 add-one-2 : tie.Need-add-one-2 Inv-loop μ-loop
 add-one-2 c = omega arith
 
--- src/lib.rt:29:25
 one-requires : tie.Need-one-requires Inv-loop μ-loop
 one-requires c κs = search needs
 
--- src/lib.rt:29:17
 add-found : tie.Need-add-found Inv-loop μ-loop
 unfolding hasKey
 add-found c = omega (arith, sought-le _ _ _ (more c))
 
--- src/lib.rt:30:9
 add-i : tie.Need-add-i Inv-loop μ-loop
 add-i c = omega arith
 
--- src/lib.rt:28:5
 loop-less : tie.Need-loop-less Inv-loop μ-loop
 loop-less c = omega arith
 
--- src/lib.rt:28:5
 loop-again : tie.Need-loop-again Inv-loop μ-loop
 loop-again c = (omega arith, sought-le _ _ _ (more c), more c)
 
--- src/lib.rt:33:9
 returns : tie.Need-returns Inv-loop μ-loop
 returns c = (sought-zero _ _ _ (ended (c .before)) (c .if1 .taken), omega arith)
 
--- src/lib.rt:35:5
 cast-result : tie.Need-cast-result Inv-loop μ-loop
 cast-result c = omega arith
 
--- src/lib.rt:35:5
 sub-result : tie.Need-sub-result Inv-loop μ-loop
 sub-result c = omega arith
 
--- src/lib.rt:21:1
 returns-2 : tie.Need-returns-2 Inv-loop μ-loop
 returns-2 c = (sought-some _ _ _ (ended (c .before)) (c .if1 .left), omega arith)
 

@@ -1,38 +1,26 @@
-use Prim.Native.Nat.{ℕ, suc, _+_, _*_, _-_, _≤_, _<_}
-use mathlib.Core.Path.{_≡_, sym, _∙_}
 use native.Mathlib.Omega.{arith}
 use borrow.Author.Tests.{eq-eqb, ne-eqb}
 use Rattle.judge.specs.Facts.{firstOf}
 use Rattle.judge.proofs.Once.{once-of}
-use borrow.Author.Needs.{needs}
 use Rattle.judge.proofs.keys.fresh.Statement.{statement}
 use Rattle.judge.proofs.keys.fresh.Tie as tie
-use Rattle.judge.proofs.keys.fresh.Reads as reads
-use Rattle.judge.proofs.keys.fresh.Lts as lts
-use Rattle.judge.proofs.keys.find.Reads as find-reads
 
--- src/lib.rt:559:20
 add-key : tie.Need-add-key
 add-key c = omega arith
 
--- src/lib.rt:559:15
 mul-key : tie.Need-mul-key
 mul-key c = omega arith
 
--- src/lib.rt:559:15
 shared-slice-read-key : tie.Need-shared-slice-read-key
 shared-slice-read-key c = omega arith
 
--- src/lib.rt:561:9
 returns : tie.Need-returns
 unfolding firstOf
 returns c = rw (eq-eqb _ _ (c .if1 .taken))
 
--- src/lib.rt:563:5
 find-requires : tie.Need-find-requires
 find-requires c κs = let s = c .before .before .before in ((omega arith, omega arith), once-of _ _ _ _ (s .pre .1) (c .if1 .left))
 
--- src/lib.rt:554:1
 returns-2 : tie.Need-returns-2
 unfolding firstOf
 returns-2 c = rw (ne-eqb _ _ (c .before .if1 .left), ← (c .find .ensures .0))

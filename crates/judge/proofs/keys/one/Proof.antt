@@ -1,14 +1,10 @@
 use borrow.Author.Tests.{eq-eqb, ne-eqb}
 use Rattle.judge.proofs.keys.one.Statement.{statement}
 use Rattle.judge.proofs.keys.one.Tie as tie
-use Rattle.judge.proofs.keys.one.Reads as reads
-use Rattle.judge.proofs.keys.one.Lts as lts
 
--- src/lib.rt:15:9
 returns : tie.Need-returns
 returns c = rw (eq-eqb _ _ (c .if1 .taken))
 
--- src/lib.rt:11:1
 returns-2 : tie.Need-returns-2
 returns-2 c = rw (ne-eqb _ _ (c .if1 .left))
 

@@ -1,38 +1,26 @@
-use Prim.Native.Nat.{ℕ, suc, _+_, _*_, _-_, _≤_, _<_}
-use mathlib.Core.Path.{_≡_, refl, sym, _∙_}
+use Prim.Native.Nat.{_<_}
 use native.Mathlib.Omega.{arith}
 use borrow.Author.Tests.{not-true, not-false}
 use Rattle.judge.proofs.Columns.{between-of}
 use Rattle.judge.proofs.Entities.{row-wild, row-cells, row-names}
-use borrow.Author.Needs.{needs}
 use Rattle.judge.proofs.rows.keyed.Statement.{statement}
 use Rattle.judge.proofs.rows.keyed.Tie as tie
-use Rattle.judge.proofs.rows.keyed.Reads as reads
-use Rattle.judge.proofs.rows.keyed.Lts as lts
-use Rattle.judge.proofs.cells.cells.Reads as cells-reads
-use Rattle.judge.proofs.rows.reference.Reads as reference-reads
 
--- src/lib.rt:416:9
 returns : tie.Need-returns
 returns c = let s = c .before .before .before .before .before .before .before in row-wild _ _ _ _ _ (s .pre .0 .0) _ _ _ _ _ (s .pre .0 .1) (c .if1 .taken)
 
--- src/lib.rt:418:16
 mul-word : tie.Need-mul-word
 mul-word c = let s = c .before .before .before .before .before .before .before in omega (arith, s .pre .0 .1 .level, s .pre .0 .0 .levels)
 
--- src/lib.rt:418:16
 shared-slice-read-word : tie.Need-shared-slice-read-word
 shared-slice-read-word c = let s = c .before .before .before .before .before .before .before .before in omega (arith, s .pre .0 .1 .level, s .pre .0 .0 .levels, s .pre .1 .1 .long)
 
--- src/lib.rt:418:31
 mul-word-2 : tie.Need-mul-word-2
 mul-word-2 c = omega (arith, c .before .if1 .left)
 
--- src/lib.rt:418:31
 shared-slice-read-word-2 : tie.Need-shared-slice-read-word-2
 shared-slice-read-word-2 c = let s = c .before .before .before .before .before .before .before .before .before in omega (arith, c .before .before .if1 .left, s .pre .1 .1 .wide)
 
--- src/lib.rt:419:9
 cells-requires : tie.Need-cells-requires
 cells-requires c κs =
     let s = c .before .before .before .before .before .before .before .before .before in
@@ -40,15 +28,12 @@ cells-requires c κs =
     let g : s .args .kc < 16 = omega (arith, c .before .before .if1 .left) in
     ((s .pre .0 .0, s .pre .0 .1), (s .pre .1 .0, between-of _ _ _ _ _ (s .pre .1 .1) h g))
 
--- src/lib.rt:420:9
 returns-2 : tie.Need-returns-2
 returns-2 c = let s = c .before .before .before .before .before .before .before .before .before .before .before in row-cells _ _ _ _ _ (s .pre .0 .0) _ _ _ _ _ (s .pre .0 .1) (c .before .cells .ensures) (not-true _ (c .if2 .taken))
 
--- src/lib.rt:422:5
 reference-requires : tie.Need-reference-requires
-reference-requires c κs = let s = c .before .before .before .before .before .before .before .before .before .before .before in let I = s .pre .0 .1 in ((s .pre .0 .0, record { level = I .level; below = I .below; stands = I .stands }, s .pre .0 .2), s .pre .1 .2)
+reference-requires c κs = let s = c .before .before .before .before .before .before .before .before .before .before .before in let I = s .pre .0 .1 in ((s .pre .0 .0, record { level = I .level; below = I .below; stands = I .stands }), s .pre .1 .2)
 
--- src/lib.rt:384:1
 returns-3 : tie.Need-returns-3
 returns-3 c = let s = c .before .before .before .before .before .before .before .before .before .before .before .before in row-names _ _ _ _ _ (s .pre .0 .0) _ _ _ _ _ (s .pre .0 .1) (c .before .before .cells .ensures) (not-false _ (c .before .if2 .left)) (c .reference .ensures)
 

@@ -1,4 +1,4 @@
-use Prim.Native.Nat.{ℕ, suc, _+_, _*_, _-_, _≤_, _<_}
+use Prim.Native.Nat.{_-_, _≤_, _<_}
 use mathlib.Core.Bool.{true}
 use mathlib.Core.Path.{_≡_, sym}
 use native.Mathlib.Omega.{arith}
@@ -9,41 +9,31 @@ use Rattle.judge.specs.Facts.{tablesOf}
 use Rattle.model.specs.Judge.{rowRight}
 use Rattle.judge.proofs.rows.levels.Statement.{statement}
 use Rattle.judge.proofs.rows.levels.Tie as tie
-use Rattle.judge.proofs.rows.levels.Reads as reads
-use Rattle.judge.proofs.rows.levels.Lts as lts
-use Rattle.judge.proofs.rows.rows.Reads as rows-reads
 
 abbrev Inv-loop : tie.InvT-loop
-Inv-loop values classes keys ranges below above d area target levels level₀ level = (level ≤ levels) × (allBelow level (λ l. allBelow (area .rows) (λ j. rowRight d (tablesOf d values classes) (area .relation) l j)) ≡ true)
+Inv-loop values classes keys ranges below above d area target count level₀ level = (level ≤ area .levels) × (allBelow level (λ l. allBelow (area .rows) (λ j. rowRight d (tablesOf d values classes) (area .relation) l j)) ≡ true)
 
 abbrev μ-loop : tie.MeasureT-loop
-μ-loop values classes keys ranges below above d area target levels level₀ level = levels - level
+μ-loop values classes keys ranges below above d area target count level₀ level = area .levels - level
 
--- src/lib.rt:492:5
 loop-holds : tie.Need-loop-holds Inv-loop μ-loop
 loop-holds c = (omega arith, all-start _)
 
--- src/lib.rt:493:13
 rows-requires : tie.Need-rows-requires Inv-loop μ-loop
-rows-requires c κs = let s = c .before .before .before .before .before .before .before .before in let h : c .before .loop .level < s .args .d .levels = omega (arith, s .pre .0 .1) in ((s .pre .0 .0, h, s .pre .0 .1), s .pre .1)
+rows-requires c κs = let s = c .before .before .before .before .before .before .before .before in let h : c .before .loop .level < s .args .d .levels = omega (arith, s .pre .0 .depth) in ((s .pre .0, h), s .pre .1)
 
--- src/lib.rt:494:13
 returns : tie.Need-returns Inv-loop μ-loop
 returns c = sym (all-fails _ _ _ (c .before .rows .ensures) (not-true _ (c .if1 .taken)) (c .before .before .loop-test .taken))
 
--- src/lib.rt:496:9
 add-level : tie.Need-add-level Inv-loop μ-loop
-add-level c = let s = c .before .before .before .before .before .before .before .before .before .before in omega (arith, s .pre .0 .1, s .pre .0 .0 .levels .few)
+add-level c = let s = c .before .before .before .before .before .before .before .before .before .before in omega (arith, s .pre .0 .depth, s .pre .0 .levels .few)
 
--- src/lib.rt:492:5
 loop-less : tie.Need-loop-less Inv-loop μ-loop
 loop-less c = omega arith
 
--- src/lib.rt:492:5
 loop-again : tie.Need-loop-again Inv-loop μ-loop
 loop-again c = let l = c .before .before .before .loop in (omega arith, all-more (l .level) _ (l .inv .1) (c .before .rows .ensures) (not-false _ (c .if1 .left)))
 
--- src/lib.rt:464:1
 returns-2 : tie.Need-returns-2 Inv-loop μ-loop
 returns-2 c = let l = c .before .loop in sym (all-end _ (l .level) _ (l .inv .1) (l .inv .0) (c .loop-test .left))
 

@@ -1,53 +1,42 @@
-use Prim.Native.Nat.{ℕ, suc, _+_, _*_, _-_, _≤_, _<_}
-use mathlib.Core.Path.{_≡_, refl, sym, _∙_}
+use Prim.Native.Nat.{_+_, _*_, _-_, _<_}
 use native.Mathlib.Omega.{arith}
 use Rattle.judge.proofs.Columns.{stood-spot}
 use Rattle.judge.proofs.Entities.{names-zero, names-null, names-some}
-use borrow.Author.Needs.{needs}
-use Rattle.judge.proofs.rows.reference.Statement.{statement}
-use Rattle.judge.proofs.rows.reference.Tie as tie
-use Rattle.judge.proofs.rows.reference.Reads as reads
-use Rattle.judge.proofs.rows.reference.Lts as lts
-use Rattle.judge.proofs.rows.names.Reads as names-reads
+use Rattle.judge.proofs.references.reference.Statement.{statement}
+use Rattle.judge.proofs.references.reference.Tie as tie
+use Rattle.judge.proofs.references.reference.Reads as reads
+use Rattle.judge.proofs.references.reference.Lts as lts
+use Rattle.judge.proofs.references.names.Reads as names-reads
 
 near : (c : lts.Else1 (names-reads.Asked, names-reads.Learnt) reads.Pre reads.Post) → let a = c .before .before .before .before .args in a .row + (a .area .foreign - 1) < a .area .start + a .d .levels * a .area .rows * a .area .cols
 near c =
     let s = c .before .before .before .before in
     stood-spot _ _ _ _ _ (s .pre .0 .0) _ _ _ _ (s .pre .0 .1 .level) (s .pre .0 .1 .below) (s .pre .0 .1 .stands) (omega (arith, s .pre .1 .column, c .if1 .left))
 
--- src/lib.rt:371:9
 returns : tie.Need-returns
 returns c = let s = c .before .before .before .before in names-zero _ _ _ _ _ (s .pre .0 .0) _ _ _ _ (s .pre .1) (s .pre .0 .1 .level) (s .pre .0 .1 .below) (s .pre .0 .1 .stands) (c .if1 .taken)
 
--- src/lib.rt:373:13
 sub-k : tie.Need-sub-k
 sub-k c = omega arith
 
--- src/lib.rt:374:14
 add-place : tie.Need-add-place
 add-place c = let s = c .before .before .before .before in omega (arith, near c, s .pre .0 .0 .values, s .pre .0 .0 .size)
 
--- src/lib.rt:375:13
 mul-v : tie.Need-mul-v
 mul-v c = let s = c .before .before .before .before in omega (arith, near c, s .pre .0 .0 .values, s .pre .0 .0 .size)
 
--- src/lib.rt:375:13
 shared-slice-read-v : tie.Need-shared-slice-read-v
 shared-slice-read-v c = let s = c .before .before .before .before .before in omega (arith, near (c .before), s .pre .0 .0 .values)
 
--- src/lib.rt:377:9
 returns-2 : tie.Need-returns-2
 returns-2 c = let s = c .before .before .before .before .before .before in names-null _ _ _ _ _ (s .pre .0 .0) _ _ _ _ (s .pre .1) (s .pre .0 .1 .level) (s .pre .0 .1 .below) (s .pre .0 .1 .stands) (c .before .before .if1 .left) (c .if2 .taken)
 
--- src/lib.rt:379:13
 shared-slice-read-c : tie.Need-shared-slice-read-c
 shared-slice-read-c c = let s = c .before .before .before .before .before .before .before in omega (arith, near (c .before .before .before), s .pre .0 .0 .classes)
 
--- src/lib.rt:380:5
 names-requires : tie.Need-names-requires
-names-requires c κs = let s = c .before .before .before .before .before .before .before in ((s .pre .1 .ready (c .before .before .before .if1 .left), s .pre .0 .2), record { level = s .pre .0 .1 .level; key = c .before .if2 .left })
+names-requires c κs = let s = c .before .before .before .before .before .before .before in (s .pre .1 .ready (c .before .before .before .if1 .left), record { level = s .pre .0 .1 .level; key = c .before .if2 .left })
 
--- src/lib.rt:345:1
 returns-3 : tie.Need-returns-3
 returns-3 c = let s = c .before .before .before .before .before .before .before .before in names-some _ _ _ _ _ (s .pre .0 .0) _ _ _ _ (s .pre .1) (s .pre .0 .1 .level) (s .pre .0 .1 .below) (s .pre .0 .1 .stands) (c .before .before .before .before .if1 .left) (c .names .ensures)
 
