@@ -1,0 +1,10 @@
+mod Search
+mod Sets
+mod Places
+mod Columns
+mod Entities
+mod Once
+mod Starts
+mod Descriptions
+mod Passes
+pub mod Settled
