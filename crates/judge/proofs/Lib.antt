@@ -3,6 +3,7 @@ mod Sets
 mod Places
 mod Columns
 mod Entities
+mod Notes
 mod Once
 mod Starts
 mod Descriptions

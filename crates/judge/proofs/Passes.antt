@@ -5,15 +5,15 @@ use mathlib.Core.Bool.{Bool, true, false}
 use mathlib.Core.Logic.{_≢_}
 use mathlib.Core.List.{List}
 use Prim.Native.Nat.{ℕ, zero, suc, _+_, _*_, _≤_, _<_}
-use native.Mathlib.Nat.{add-zero, add-assoc, le-antisymm, lt-irrefl, mul-le-mul-right}
+use native.Mathlib.Nat.{add-zero, add-assoc, lt-irrefl, mul-le-mul-right}
 use native.Mathlib.Numerals.{add-one}
 use native.Mathlib.Omega.{arith}
-use lib.Dec.{eqb, ltb}
+use lib.Dec.{eqb}
 use lib.ListN.{length, getD}
-use borrow.Author.Tests.{ltb-true, ltb-false, eq-eqb, ne-eqb, eqb-false}
+use borrow.Author.Tests.{eq-eqb, ne-eqb, eqb-false}
 use Rattle.bounded.specs.Bounded.{firstBelow, allBelow}
 use Rattle.bounded.proofs.Cases.{cases, clash}
-use Rattle.bounded.proofs.First.{first-holds, first-before, first-le, first-cong}
+use Rattle.bounded.proofs.First.{first-before, first-cong}
 use Rattle.bounded.proofs.All.{all-at, all-of}
 use Rattle.model.specs.declared.Description.{Description}
 use Rattle.model.specs.declared.Verdict.the-variants as Verdicts
@@ -25,6 +25,7 @@ use Rattle.model.proofs.Border.{Inside, inside-shown}
 use Rattle.judge.specs.declared.areas.Area.{Area}
 use Rattle.judge.specs.Facts.{tablesOf, hasKey, firstOf, Sane, Starting, areaOf, Keyed, distinctKeys, relationRight, tablesRight, Ready, Refers, Laid}
 use Rattle.judge.proofs.Starts.{Standing, standing, keys-room, cells-room, refers-of}
+use Rattle.judge.proofs.Search.{first-none}
 use Rattle.judge.proofs.Once.{once-of}
 
 -- ---- the cells of relation r + 1
@@ -53,12 +54,6 @@ module _ (d : Description) (vs cs : List ℕ) (r : ℕ) (h : r < d .relations) w
         ∙ sym (ap (λ (x : Cell). x .value) (simp add-zero at (cells-of l i 0 hl hi (S .keyed r h))))
 
 -- ---- a key that stands twice
-
-first-none : (n : ℕ) (p : ℕ → Bool) → ((j : ℕ) → j < n → p j ≡ false) → firstBelow n p ≡ n
-first-none n p h =
-    cases (ltb (firstBelow n p) n)
-    (λ t. clash (first-holds n p (ltb-true _ _ t)) (h (firstBelow n p) (ltb-true _ _ t)))
-    (λ t. le-antisymm (first-le n p) (ltb-false _ _ t))
 
 module _ (d : Description) (T : Tables) (ks : List ℕ) (r l from : ℕ) (named : (i : ℕ) → i < rowCount d r → getD ks (from + i) 0 ≡ T r l i 1 .value) where
   place-keys : (v : ℕ) → place (rowCount d r) (T r l) v ≡ firstBelow (rowCount d r) (hasKey ks from v)
@@ -115,10 +110,10 @@ module _ (d : Description) (vs cs ks ss : List ℕ) (S : Sane d) (P : Starting d
         wide = rw (G .cols) (S .bounded .cols (suc r));
         keyed = rw (G .cols) (S .keyed r h);
         size = omega (arith, S .total);
-        long = omega (arith, K .long);
+        long = K .long;
         values = rw (G .start, G .rows, G .cols, ev) (cells-room d r h);
         classes = rw (G .start, G .rows, G .cols, ec) (cells-room d r h);
-        keys = rw (G .start, G .rows, K .long) (keys-room d S r h);
+        keys = rw (G .start, G .rows) (keys-room d S r h);
         cells = λ l i k hl hi hk. rw (G .relation, G .start, G .rows, G .cols) (cells-of d vs cs r h l i k hl (rw (G .rows) at hi) (rw (G .cols) at hk));
         key = λ l i hl hi. rw (G .relation, G .start, G .rows) (key-of d vs cs r h ks S K l i hl (rw (G .rows) at hi));
         once = λ l v hl z. rw (G .start, G .rows) (once-of ks (startOf d (suc r) + l * rowCount d (suc r)) (rowCount d (suc r)) v (distinct-level r l h hl) z);

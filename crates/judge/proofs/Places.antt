@@ -34,7 +34,7 @@ module _ (d : Description) (vs cs ks : List ℕ) (a : Area) (R : Ready d vs cs k
   T = tablesOf d vs cs
 
   -- the keys of a level
-  pub block : (l : ℕ) → l < d .levels → a.start + l * a.rows + a.rows ≤ length ks
+  pub block : (l : ℕ) → l < d .levels → a.start + l * a.rows + a.rows ≤ 8192
   block l h = omega (arith, mul-le-mul-right a.rows h, R .keys)
 
   pub spot : (l i k : ℕ) → l < d .levels → i < a.rows → k < a.cols → a.start + (l * a.rows + i) * a.cols + k < a.start + d .levels * a.rows * a.cols

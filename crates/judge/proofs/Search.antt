@@ -1,16 +1,24 @@
 -- A search that adds up the numbers of the rows that were met: as the key stands at most once, the sum is the row that has it.
 -- Assumes nothing.
 use mathlib.Core.Path.{_≡_, refl, sym, _∙_}
-use mathlib.Core.Bool.{Bool, true}
+use mathlib.Core.Bool.{Bool, true, false}
 use mathlib.Core.Logic.{_⊎_, inl, inr, ⊎-elim}
 use Prim.Native.Nat.{ℕ, _+_, _-_, _≤_, _<_}
+use native.Mathlib.Nat.{le-antisymm}
 use native.Mathlib.Numerals.{add-one}
 use native.Mathlib.Omega.{arith}
-use borrow.Author.Tests.{lt-ltb}
+use lib.Dec.{ltb}
+use borrow.Author.Tests.{lt-ltb, ltb-true, ltb-false}
 use Rattle.bounded.specs.Tests.{if_then_else_}
 use Rattle.bounded.specs.Bounded.{firstBelow}
-use Rattle.bounded.proofs.Cases.{cases}
-use Rattle.bounded.proofs.First.{first-more, first-here, first-start, first-holds}
+use Rattle.bounded.proofs.Cases.{cases, clash}
+use Rattle.bounded.proofs.First.{first-more, first-here, first-start, first-holds, first-le}
+
+pub first-none : (n : ℕ) (p : ℕ → Bool) → ((j : ℕ) → j < n → p j ≡ false) → firstBelow n p ≡ n
+first-none n p h =
+    cases (ltb (firstBelow n p) n)
+    (λ t. clash (first-holds n p (ltb-true _ _ t)) (h (firstBelow n p) (ltb-true _ _ t)))
+    (λ t. le-antisymm (first-le n p) (ltb-false _ _ t))
 
 pub Sought : ℕ → (ℕ → Bool) → ℕ → Type 0
 Sought n p f = ((f ≡ 0) × (firstBelow n p ≡ n)) ⊎ ((f ≡ firstBelow n p + 1) × (firstBelow n p < n))

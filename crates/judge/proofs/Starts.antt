@@ -86,7 +86,7 @@ module _ (d : Description) where
   unfolding sizeOf
   cells-room r h = start-room (suc r) h
 
-  pub keyed-none : (vs ks : List ℕ) → length ks ≡ 8192 → Keyed d vs 0 ks
+  pub keyed-none : (vs ks : List ℕ) → length ks ≡ 16384 → Keyed d vs 0 ks
   keyed-none vs ks e = record { long = e; right = λ r j h. absurd (omega arith) }
 
   pub keyed-more : Sane d → (vs ks xs : List ℕ) (m : ℕ) → m < d .relations → Keyed d vs m ks
@@ -127,16 +127,16 @@ module _ (d : Description) (ss : List ℕ) (P : Starting d ss) (r : ℕ) (h : r 
   standing-at a e = rw (e, add-one r) standing
 
 module _ (d : Description) (S : Sane d) (r : ℕ) (h : r < d .relations) (a : Area) (G : Standing d r a) where
-  pub fill-room : (vs ks : List ℕ) → length vs ≡ totalOf d → length ks ≡ 8192
-      → ((a.start + a.levels * a.rows ≤ length ks) × (a.start + a.levels * a.rows * a.cols ≤ length vs) × (0 < a.cols)) × ((length ks ≤ 8192) × (length vs ≤ 8192))
+  pub fill-room : (vs ks : List ℕ) → length vs ≡ totalOf d → length ks ≡ 16384
+      → ((a.start + a.levels * a.rows ≤ length ks) × (a.start + a.levels * a.rows * a.cols ≤ length vs) × (0 < a.cols)) × ((length ks ≡ 16384) × (length vs ≤ 8192))
   fill-room vs ks x y =
-      rw (G .start, G .rows, G .cols, G .levels, x, y) ((keys-room d S r h, cells-room d r h, S .keyed r h), (omega arith, S .total))
+      rw (G .start, G .rows, G .cols, G .levels, x, y) ((omega (arith, keys-room d S r h), cells-room d r h, S .keyed r h), (refl, S .total))
 
   pub fill-more : (vs ks xs : List ℕ) → Keyed d vs r ks → Gathered vs ks xs a.start (a.levels * a.rows) a.cols → Keyed d vs (r + 1) xs
   fill-more vs ks xs K F = keyed-more d S vs ks xs r h K (rw (← (G .start), ← (G .rows), ← (G .cols), ← (G .levels)) F)
 
-  pub levels-room : (ks : List ℕ) → length ks ≡ 8192 → (a.start + a.levels * a.rows ≤ length ks) × (a.rows ≤ 64) × (a.levels ≤ 16) × (length ks ≤ 8192)
-  levels-room ks y = rw (G .start, G .rows, G .levels, y) (keys-room d S r h, S .bounded .rows (suc r), S .bounded .levels, omega arith)
+  pub levels-room : (a.start + a.levels * a.rows ≤ 8192) × (a.rows ≤ 64) × (a.levels ≤ 16)
+  levels-room = rw (G .start, G .rows, G .levels) (keys-room d S r h, S .bounded .rows (suc r), S .bounded .levels)
 
   pub distinct-at : (ks : List ℕ) {b : Bool} → b ≡ allBelow a.levels (λ m. allBelow a.rows (firstOf ks (a.start + m * a.rows)))
       → b ≡ allBelow (d .levels) (λ m. allBelow (rowCount d (suc r)) (firstOf ks (startOf d (suc r) + m * rowCount d (suc r))))

@@ -45,6 +45,19 @@ pub record Once (ks : List ℕ) (from n v : ℕ) : Type 0 where
 unfoldable pub firstOf : List ℕ → ℕ → ℕ → Bool
 firstOf ks from i = eqb (getD ks (from + i) 0) 0 || eqb (firstBelow i (hasKey ks from (getD ks (from + i) 0))) i
 
+-- where the row of key v is noted, for the keys that stand from `from` on
+unfoldable pub slotOf : ℕ → ℕ → ℕ
+slotOf from v = 8192 + (17 * from + v) % 8192
+
+-- the places of the first n keys have notes
+pub record Noted (ks : List ℕ) (from n : ℕ) : Type 0 where
+  pub noted : (i : ℕ) → i < n → getD ks (from + i) 0 ≢ 0 → getD ks (slotOf from (getD ks (from + i) 0)) 0 ≢ 0
+
+-- the first 8192 numbers, the keys, are the same; notes may differ
+pub record Kept (before after : List ℕ) : Type 0 where
+  pub long : length after ≡ length before
+  pub same : (p : ℕ) → p < 8192 → getD after p 0 ≡ getD before p 0
+
 -- n keys of a relation were copied to `start` and on; what stood before stays
 pub record Gathered (vs before after : List ℕ) (start n m : ℕ) : Type 0 where
   pub long : length after ≡ length before
@@ -148,7 +161,7 @@ areaOf d ss r =
 
 -- the keys of the first n relations, each from where the relation's cells start
 pub record Keyed (d : Description) (vs : List ℕ) (n : ℕ) (ks : List ℕ) : Type 0 where
-  pub long : length ks ≡ 8192
+  pub long : length ks ≡ 16384
   pub right : (r j : ℕ) → r < n → j < d .levels * rowCount d (suc r)
       → getD ks (startOf d (suc r) + j) 0 ≡ getD vs (startOf d (suc r) + j * columnCount d (suc r)) 0
 
@@ -177,10 +190,10 @@ pub record Ready (d : Description) (vs cs ks : List ℕ) (a : Area) : Type 0 whe
   pub wide : a .cols ≤ 8
   pub keyed : 0 < a .cols
   pub size : length vs ≤ 8192
-  pub long : length ks ≤ 8192
+  pub long : length ks ≡ 16384
   pub values : a .start + d .levels * a .rows * a .cols ≤ length vs
   pub classes : a .start + d .levels * a .rows * a .cols ≤ length cs
-  pub keys : a .start + d .levels * a .rows ≤ length ks
+  pub keys : a .start + d .levels * a .rows ≤ 8192
   pub cells : (l i k : ℕ) → l < d .levels → i < a .rows → k < a .cols
       → tablesOf d vs cs (a .relation) l i (suc k)
       ≡ cell (getD vs (a .start + (l * a .rows + i) * a .cols + k) 0) (getD cs (a .start + (l * a .rows + i) * a .cols + k) 0)

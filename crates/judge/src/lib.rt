@@ -43,9 +43,9 @@ pub fn legal(
     let above = words::words(order, true);
     let ranges = words::ranges(&below, &above, description);
     let starts = areas::starts(description);
-    let mut keys = [0u32; 8192];
+    let mut keys = [0u32; 16384];
     keys::fill(values, &mut keys, description, starts);
-    if !keys::relations(&keys, description, starts) {
+    if !keys::relations(&mut keys, description, starts) {
         return false;
     }
     rows::tables(

@@ -4,6 +4,7 @@ use lib.ListN.{length-replicate}
 use borrow.Author.Tests.{not-true, not-false}
 use Rattle.judge.proofs.Sets.{orders-of}
 use Rattle.judge.proofs.Descriptions.{sane-of}
+use Rattle.judge.proofs.Notes.{keyed-kept, distinct-kept}
 use Rattle.judge.proofs.Passes.{laid-of, tables-twice, tables-legal}
 use borrow.Author.Needs.{needs}
 use Rattle.judge.proofs.legal.Statement.{statement}
@@ -31,7 +32,7 @@ slice-aggregate-fill : tie.Need-slice-aggregate-fill
 slice-aggregate-fill c = search needs
 
 fill-requires : tie.Need-fill-requires
-fill-requires c κs = let s = c .before .before .before .before .before .before .before .before .before in ((sane-of _ (s .pre .0 .0), c .before .starts .ensures), (s .pre .1 .0, length-replicate {A = ℕ} 8192 0))
+fill-requires c κs = let s = c .before .before .before .before .before .before .before .before .before in ((sane-of _ (s .pre .0 .0), c .before .starts .ensures), (s .pre .1 .0, length-replicate {A = ℕ} 16384 0))
 
 slice-aggregate-relations : tie.Need-slice-aggregate-relations
 slice-aggregate-relations c = search needs
@@ -40,7 +41,7 @@ relations-requires : tie.Need-relations-requires
 relations-requires c κs = let s = c .before .before .before .before .before .before .before .before .before .before .before .before in ((sane-of _ (s .pre .0 .0), c .before .before .before .before .starts .ensures), c .before .before .fill .ensures .long)
 
 returns : tie.Need-returns
-returns c = let s = c .before .before .before .before .before .before .before .before .before .before .before .before .before .before in tables-twice _ _ _ _ (sane-of _ (s .pre .0 .0)) (c .before .before .before .before .fill .ensures) (c .before .relations .ensures) (not-true _ (c .if1 .taken)) ∙ tables-legal _ _ _
+returns c = let s = c .before .before .before .before .before .before .before .before .before .before .before .before .before .before .before in tables-twice _ _ _ _ (sane-of _ (s .pre .0 .0)) (c .before .before .before .before .before .fill .ensures) (c .before .before .relations .ensures .0) (not-true _ (c .if1 .taken)) ∙ tables-legal _ _ _
 
 slice-aggregate-tables : tie.Need-slice-aggregate-tables
 slice-aggregate-tables c = search needs
@@ -56,10 +57,13 @@ slice-aggregate-tables-4 c = search needs
 
 tables-requires : tie.Need-tables-requires
 tables-requires c κs =
-    let s = c .before .before .before .before .before .before .before .before .before .before .before .before .before .before .before .before .before .before in
-    let S = sane-of _ (s .pre .0 .0) in (
-      laid-of _ _ _ _ _ S (c .before .before .before .before .before .before .before .before .before .before .starts .ensures) (c .before .before .before .before .before .before .before .before .fill .ensures) (s .pre .1 .0) (s .pre .1 .1) (sym (c .before .before .before .before .before .relations .ensures) ∙ not-false _ (c .before .before .before .before .if1 .left)),
-      (c .before .before .before .before .before .before .before .before .before .before .before .ranges .ensures, orders-of _ _ (S .levels) (s .pre .0 .1) _ _ (c .before .before .before .before .before .before .before .before .before .before .before .before .before .before .before .words .ensures) (c .before .before .before .before .before .before .before .before .before .before .before .before .before .before .words2 .ensures)),
+    let s = c .before .before .before .before .before .before .before .before .before .before .before .before .before .before .before .before .before .before .before in
+    let S = sane-of _ (s .pre .0 .0) in
+    let K = c .before .before .before .before .before .before .relations .ensures in
+    let F = keyed-kept _ S _ _ (K .1) _ (c .before .before .before .before .before .before .before .before .before .fill .ensures) in
+    let D = distinct-kept _ S _ _ (K .1) ∙ sym (K .0) ∙ not-false _ (c .before .before .before .before .if1 .left) in (
+      laid-of _ _ _ _ _ S (c .before .before .before .before .before .before .before .before .before .before .before .starts .ensures) F (s .pre .1 .0) (s .pre .1 .1) D,
+      (c .before .before .before .before .before .before .before .before .before .before .before .before .ranges .ensures, orders-of _ _ (S .levels) (s .pre .0 .1) _ _ (c .before .before .before .before .before .before .before .before .before .before .before .before .before .before .before .before .words .ensures) (c .before .before .before .before .before .before .before .before .before .before .before .before .before .before .before .words2 .ensures)),
     )
 
 returns-2 : tie.Need-returns-2

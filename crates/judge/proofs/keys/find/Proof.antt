@@ -1,97 +1,67 @@
-use Prim.Native.Nat.{ℕ, _+_, _≤_, _-_}
+use Prim.Native.Nat.{_%_, _<_}
+use lib.ListN.{getD}
 use native.Mathlib.Omega.{arith}
 use borrow.Author.Needs.{needs}
-use Rattle.bounded.proofs.Cases.{at-end}
+use borrow.Author.Tests.{eq-eqb}
 use Rattle.judge.specs.Facts.{hasKey}
-use Rattle.judge.proofs.Search.{Sought, sought-none, sought-le, sought-more, sought-zero, sought-some}
+use Rattle.judge.proofs.Notes.{slot-room, once-first}
 use Rattle.judge.proofs.keys.find.Statement.{statement}
 use Rattle.judge.proofs.keys.find.Tie as tie
-use Rattle.judge.proofs.keys.find.Reads as reads
-use Rattle.judge.proofs.keys.find.Lts as lts
-use Rattle.judge.proofs.keys.one.Reads as one-reads
 
-abbrev Inv-loop : tie.InvT-loop
-Inv-loop keys from rows key i₀ found₀ i found = (i ≤ rows) × (found ≤ i) × Sought i (hasKey keys from key) found
+slot-requires : tie.Need-slot-requires
+slot-requires c κs = omega arith
 
-abbrev μ-loop : tie.MeasureT-loop
-μ-loop keys from rows key i₀ found₀ i found = rows - i
+mul-i : tie.Need-mul-i
+mul-i c = let s = c .before .before in omega (arith, c .slot .ensures, slot-room (s .args .from) (s .args .key) .1)
 
-more : (c : lts.After-one (one-reads.Asked, one-reads.Learnt) reads.Pre reads.Post Inv-loop μ-loop) → let l = c .before .before .before .loop in let a = c .before .before .before .before .before .args in Sought (l .i + 1) (hasKey (a .keys .now) (a .from) (a .key)) (l .found + c .one .result)
+shared-slice-read-i : tie.Need-shared-slice-read-i
+shared-slice-read-i c = let s = c .before .before .before in omega (arith, c .before .slot .ensures, slot-room (s .args .from) (s .args .key) .1)
+
+cast-i : tie.Need-cast-i
+cast-i c = search needs
+
+search-requires : tie.Need-search-requires
+search-requires c κs = let s = c .before .before .before .before in ((omega arith, s .pre .0 .1), s .pre .1)
+
+returns : tie.Need-returns
+returns c = c .search .ensures
+
+add-if2 : tie.Need-add-if2
+add-if2 c = omega arith
+
+mul-if2 : tie.Need-mul-if2
+mul-if2 c = omega arith
+
+shared-slice-read-if2 : tie.Need-shared-slice-read-if2
+shared-slice-read-if2 c = omega arith
+
+returns-2 : tie.Need-returns-2
 unfolding hasKey
-more c =
-    let l = c .before .before .before .loop in
-    let s = c .before .before .before .before .before in
-    sought-more (l .i) (s .args .rows) (hasKey (s .args .keys .now) (s .args .from) (s .args .key)) _ (c .before .before .loop-test .taken) (s .pre .1 .one) (l .inv .2) (c .one .ensures)
+returns-2 c =
+    let s = c .before .before .before .before .before .before in
+    let i = getD (s .args .keys .now) (c .before .before .before .before .slot .result) 0 % 64 in
+    let h : i < s .args .rows = omega arith in
+    (once-first (s .args .keys .now) (s .args .from) (s .args .rows) (s .args .key) i (s .pre .1) h (eq-eqb _ _ (c .if2 .taken)), omega arith)
 
-ended : (c : lts.After-loop (one-reads.Asked, one-reads.Learnt) reads.Pre reads.Post Inv-loop μ-loop) → let a = c .before .before .before .args in Sought (a .rows) (hasKey (a .keys .now) (a .from) (a .key)) (c .before .loop .found)
-ended c =
-    let a = c .before .before .before .args in
-    at-end (λ (n : ℕ). Sought n (hasKey (a .keys .now) (a .from) (a .key)) (c .before .loop .found)) (c .before .loop .inv .0) (c .loop-test .left) (c .before .loop .inv .2)
+search-requires-2 : tie.Need-search-requires-2
+search-requires-2 c κs = let s = c .before .before .before .before .before .before in ((omega arith, s .pre .0 .1), s .pre .1)
 
-loop-holds : tie.Need-loop-holds Inv-loop μ-loop
-loop-holds c = (omega arith, omega arith, sought-none _)
-
-add-one : tie.Need-add-one Inv-loop μ-loop
-add-one c = omega arith
-
-mul-one : tie.Need-mul-one Inv-loop μ-loop
-mul-one c = omega arith
-
-shared-slice-read-one : tie.Need-shared-slice-read-one Inv-loop μ-loop
-shared-slice-read-one c = omega arith
-
-cast-one : tie.Need-cast-one Inv-loop μ-loop
-cast-one c = omega arith
-
-add-one-2 : tie.Need-add-one-2 Inv-loop μ-loop
-add-one-2 c = omega arith
-
-one-requires : tie.Need-one-requires Inv-loop μ-loop
-one-requires c κs = search needs
-
-add-found : tie.Need-add-found Inv-loop μ-loop
-unfolding hasKey
-add-found c = omega (arith, sought-le _ _ _ (more c))
-
-add-i : tie.Need-add-i Inv-loop μ-loop
-add-i c = omega arith
-
-loop-less : tie.Need-loop-less Inv-loop μ-loop
-loop-less c = omega arith
-
-loop-again : tie.Need-loop-again Inv-loop μ-loop
-loop-again c = (omega arith, sought-le _ _ _ (more c), more c)
-
-returns : tie.Need-returns Inv-loop μ-loop
-returns c = (sought-zero _ _ _ (ended (c .before)) (c .if1 .taken), omega arith)
-
-cast-result : tie.Need-cast-result Inv-loop μ-loop
-cast-result c = omega arith
-
-sub-result : tie.Need-sub-result Inv-loop μ-loop
-sub-result c = omega arith
-
-returns-2 : tie.Need-returns-2 Inv-loop μ-loop
-returns-2 c = (sought-some _ _ _ (ended (c .before)) (c .if1 .left), omega arith)
+returns-3 : tie.Need-returns-3
+returns-3 c = c .search2 .ensures
 
 pub find-spec : {M : Type 1} → statement M
 find-spec =
     tie.close
     (tie.spec
-    Inv-loop
-    μ-loop
-    loop-holds
-    add-one
-    mul-one
-    shared-slice-read-one
-    cast-one
-    add-one-2
-    one-requires
-    add-found
-    add-i
-    loop-less
-    loop-again
+    slot-requires
+    mul-i
+    shared-slice-read-i
+    cast-i
+    search-requires
     returns
-    cast-result
-    sub-result
-    returns-2)
+    add-if2
+    mul-if2
+    shared-slice-read-if2
+    returns-2
+    search-requires-2
+    returns-3)

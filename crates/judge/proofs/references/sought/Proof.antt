@@ -11,7 +11,7 @@ add-from : tie.Need-add-from
 add-from c = let s = c .before .before .before .before in omega (arith, block _ _ _ _ _ (s .pre .0) (s .args .level) (s .pre .1 .level))
 
 find-requires : tie.Need-find-requires
-find-requires c κs = let s = c .before .before .before .before in ((block _ _ _ _ _ (s .pre .0) (s .args .level) (s .pre .1 .level), s .pre .0 .few), s .pre .0 .once _ _ (s .pre .1 .level) (s .pre .1 .key))
+find-requires c κs = let s = c .before .before .before .before in ((block _ _ _ _ _ (s .pre .0) (s .args .level) (s .pre .1 .level), s .pre .0 .few, s .pre .0 .long), s .pre .0 .once _ _ (s .pre .1 .level) (s .pre .1 .key))
 
 returns : tie.Need-returns
 returns c = let s = c .before .before .before .before .before in (c .find .ensures .0 ∙ sym (place-found _ _ _ _ _ (s .pre .0) (s .args .level) (s .args .key) (s .pre .1 .level)), c .find .ensures .1)
