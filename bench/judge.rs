@@ -64,8 +64,8 @@ fn dominates(a: u16, b: u16) -> bool {
     b / 256 <= a / 256 && a & b & 255 == b & 255
 }
 
-// Whether the tables are legal.
-pub fn legal(d: &Description, values: &[u32], classes: &[u8], room: &mut Room) -> bool {
+// The levels that each level dominates, and those that dominate it, as words.
+fn order(d: &Description) -> ([u16; 16], [u16; 16]) {
     let mut below = [0u16; 16];
     let mut above = [0u16; 16];
     for a in 0..d.levels {
@@ -76,6 +76,48 @@ pub fn legal(d: &Description, values: &[u32], classes: &[u8], room: &mut Room) -
             }
         }
     }
+    (below, above)
+}
+
+fn cells(d: &Description) -> usize {
+    (1..d.columns.len()).map(|r| d.levels * d.rows[r] * d.columns[r]).sum()
+}
+
+// Whether the description is sound.
+fn sound(d: &Description, below: &[u16; 16]) -> bool {
+    let labels = &d.labels[..d.levels];
+    if labels.iter().enumerate().any(|(i, label)| *label > 4095 || labels[..i].contains(label)) {
+        return false;
+    }
+    for r in 1..d.columns.len() {
+        if !(1..=8).contains(&d.columns[r]) || !(1..=64).contains(&d.rows[r]) {
+            return false;
+        }
+        for k in 9 * r + 1..9 * r + 1 + d.columns[r] {
+            if d.high[k] >= d.levels || d.low[k] >= d.levels || below[d.high[k]] & 1 << d.low[k] == 0 {
+                return false;
+            }
+        }
+        let (foreign, refers) = (d.foreign[r], d.refers[r]);
+        if foreign == 0 && refers != 0 || foreign != 0 && (foreign < 2 || foreign > d.columns[r] || refers == 0 || refers >= r) {
+            return false;
+        }
+    }
+    cells(d) <= 8192
+}
+
+// Whether the description is sound, the buffers are as long as it says, and the tables are legal.
+pub fn judge(d: &Description, values: &[u32], classes: &[u8], room: &mut Room) -> bool {
+    if !(1..=16).contains(&d.levels) || !(2..=9).contains(&d.columns.len()) {
+        return false;
+    }
+    let (below, above) = order(d);
+    let total = cells(d);
+    sound(d, &below) && values.len() == total && classes.len() == total && legal(d, &below, &above, values, classes, room)
+}
+
+// Whether the tables are legal.
+fn legal(d: &Description, below: &[u16; 16], above: &[u16; 16], values: &[u32], classes: &[u8], room: &mut Room) -> bool {
     let mut starts = [0usize; 9];
     for r in 1..d.columns.len() {
         starts[r] = starts[r - 1] + if r > 1 { d.levels * d.rows[r - 1] * d.columns[r - 1] } else { 0 };

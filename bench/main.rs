@@ -25,7 +25,7 @@ fn rust_seconds(t: &Tables, times: u32) -> f64 {
     let began = Instant::now();
     let mut yes = 0;
     for _ in 0..times {
-        yes += judge::legal(std::hint::black_box(&t.d), std::hint::black_box(&t.values), std::hint::black_box(&t.classes), &mut room) as u32;
+        yes += judge::judge(std::hint::black_box(&t.d), std::hint::black_box(&t.values), std::hint::black_box(&t.classes), &mut room) as u32;
     }
     let took = began.elapsed().as_secs_f64();
     assert_eq!(yes, times, "the Rust judge says the tables are legal");
