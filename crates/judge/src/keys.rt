@@ -48,7 +48,7 @@ fn search(keys: &[u32], from: usize, rows: usize, key: u32) -> usize
     found as usize - 1
 }
 
-// The same row: the one that is noted where it has the key, else the one that is found.
+// The same row: the one that is noted where it has the key, else the one that is found. A note is 64 more than the row, and 0 is no note.
 pub fn find(keys: &[u32], from: usize, rows: usize, key: u32) -> usize
     requires { ⌜ (from + rows ≤ 8192) × (rows ≤ 64) × (length (now keys) ≡ 16384) ⌝ }
     requires { ⌜ Once (now keys) from rows key ⌝ }
