@@ -32,21 +32,17 @@ fn rust_seconds(t: &Tables, times: u32) -> f64 {
     took
 }
 
-fn median(mut xs: Vec<f64>) -> f64 {
-    xs.sort_by(|a, b| a.partial_cmp(b).unwrap());
-    xs[xs.len() / 2]
-}
-
-// Microseconds of one call, of both, over alternating rounds.
+// Microseconds of one call, of both, over alternating rounds: the least of each, since whatever else the machine does can only add to it.
 fn compare(program: &[String], t: &Tables) -> (f64, f64) {
-    let (few, many) = (100, 4100);
-    let (mut proved, mut rust) = (Vec::new(), Vec::new());
-    for _ in 0..7 {
-        let base = proved_seconds(program, t, few);
-        proved.push((proved_seconds(program, t, many) - base) / (many - few) as f64 * 1e6);
-        rust.push(rust_seconds(t, many - few) / (many - few) as f64 * 1e6);
+    let (few, many) = (100, 2100);
+    let (mut base, mut whole, mut rust) = (f64::MAX, f64::MAX, f64::MAX);
+    for _ in 0..25 {
+        base = base.min(proved_seconds(program, t, few));
+        whole = whole.min(proved_seconds(program, t, many));
+        rust = rust.min(rust_seconds(t, many - few));
     }
-    (median(proved), median(rust))
+    let calls = (many - few) as f64;
+    ((whole - base) / calls * 1e6, rust / calls * 1e6)
 }
 
 // Two small cases, legal tables and the same with one borrowed value changed: what the program's own check is run on.
