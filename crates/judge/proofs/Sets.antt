@@ -2,7 +2,7 @@
 -- Assumes nothing.
 use mathlib.Core.Path.{_≡_, refl, sym, ap, subst, _∙_}
 use mathlib.Core.Bool.{Bool, true, false, _&&_, _||_}
-use mathlib.Core.List.{List}
+use mathlib.Core.List.{List, []}
 use Prim.Native.Nat.{ℕ, zero, suc, _+_, _*_, _/_, _%_, _^_, _≤_, _<_, max}
 use native.Mathlib.Nat.{lt-of-lt-of-le, div-eq-of-lt, div-self, zero-div, pow-suc, one-mul, le-refl}
 use native.Mathlib.Numerals.{one-add}
@@ -102,6 +102,16 @@ word-more f b w {on} {r} D e W =
   where
     step : (c : ℕ) → (c ≡ b → ⊥) → ltb c b ≡ ltb c (b + 1)
     step c q = cases (ltb c b) (λ t. rw t (sym (lt-ltb c (b + 1) (omega (arith, ltb-true c b t))))) (λ t. rw t (sym (le-ltb c (b + 1) (omega (arith, ltb-false c b t)))))
+
+-- an entry of the order, read where both levels are below 16
+module _ (order : List (List Bool)) (turned : Bool) (a b : ℕ) (ha : a < 16) (hb : b < 16) where
+  pub pair-as : turned ≡ false → getD (getD order a []) b false ≡ pairOf order turned a b
+  unfolding pairOf entryOf
+  pair-as t = rw (t, lt-ltb a 16 ha, lt-ltb b 16 hb)
+
+  pub pair-turned : turned ≡ true → getD (getD order b []) a false ≡ pairOf order turned a b
+  unfolding pairOf entryOf
+  pair-turned t = rw (t, lt-ltb a 16 ha, lt-ltb b 16 hb)
 
 -- ---- a list that is filled one number after the other
 

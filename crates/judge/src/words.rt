@@ -26,24 +26,15 @@ fn with(word: u16, b: usize, on: bool) -> u16
     word
 }
 
-// Whether level `a` dominates level `b`, or, `turned`, is dominated by it.
-fn pair(order: [[bool; 16]; 16], turned: bool, a: usize, b: usize) -> bool
-    ensures { λ r. ⌜ r ≡ pairOf order turned a b ⌝ }
-{
-    if turned {
-        return level::over(order, b, a);
-    }
-    level::over(order, a, b)
-}
-
 // The levels that level `a` dominates, or, `turned`, is dominated by.
 fn word(order: [[bool; 16]; 16], turned: bool, a: usize) -> u16
+    requires { ⌜ a < 16 ⌝ }
     ensures { λ r. ⌜ Word (pairOf order turned a) 16 r ⌝ }
 {
     let mut word = 0u16;
     let mut b = 0;
     while b < 16 {
-        let on = pair(order, turned, a, b);
+        let on = if turned { order[b][a] } else { order[a][b] };
         word = with(word, b, on);
         b += 1;
     }

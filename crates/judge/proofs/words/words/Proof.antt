@@ -18,7 +18,7 @@ loop-holds : tie.Need-loop-holds Inv-loop μ-loop
 loop-holds c = (omega arith, record { long = refl; right = λ k h. absurd (omega arith) })
 
 word-requires : tie.Need-word-requires Inv-loop μ-loop
-word-requires c κs = search needs
+word-requires c κs = c .loop-test .taken
 
 mul-words : tie.Need-mul-words Inv-loop μ-loop
 mul-words c = omega arith
