@@ -16,7 +16,7 @@ use borrow.Author.Count.{below-more}
 use borrow.Author.Tests.{eq-eqb, ne-eqb, eqb-true, eqb-false, lt-ltb, le-ltb, ltb-true, ltb-false}
 use Rattle.bounded.proofs.Cases.{cases, and-false-right}
 use Rattle.level.specs.Order.{orderOf, entryOf}
-use Rattle.level.proofs.Levels.{order-laws}
+use Rattle.level.proofs.Levels.{order-laws, entry-read}
 use Rattle.model.specs.declared.Description.{Description}
 use Rattle.model.specs.Description.{over}
 use Rattle.judge.specs.Facts.{hasBit, With, Word, pairOf, Words, Leveled, Orders, Within, Ranges}
@@ -106,12 +106,12 @@ word-more f b w {on} {r} D e W =
 -- an entry of the order, read where both levels are below 16
 module _ (order : List (List Bool)) (turned : Bool) (a b : ℕ) (ha : a < 16) (hb : b < 16) where
   pub pair-as : turned ≡ false → getD (getD order a []) b false ≡ pairOf order turned a b
-  unfolding pairOf entryOf
-  pair-as t = rw (t, lt-ltb a 16 ha, lt-ltb b 16 hb)
+  unfolding pairOf
+  pair-as t = rw t (sym (entry-read order a b ha hb))
 
   pub pair-turned : turned ≡ true → getD (getD order b []) a false ≡ pairOf order turned a b
-  unfolding pairOf entryOf
-  pair-turned t = rw (t, lt-ltb a 16 ha, lt-ltb b 16 hb)
+  unfolding pairOf
+  pair-turned t = rw t (sym (entry-read order b a hb ha))
 
 -- ---- a list that is filled one number after the other
 

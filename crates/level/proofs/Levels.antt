@@ -83,3 +83,8 @@ module _ (labels : List ℕ) (n : ℕ) where
 
   pub order-laws : OrderLaws labels n
   order-laws = record { inside = inside; outside = outside; entries = entries }
+
+-- inside its 16 by 16, an entry is read row first
+pub entry-read : (order : List (List Bool)) (a b : ℕ) → a < 16 → b < 16 → entryOf order a b ≡ getD (getD order a []) b false
+unfolding entryOf
+entry-read order a b h k = rw (lt-ltb a 16 h, lt-ltb b 16 k)
