@@ -26,6 +26,7 @@ use Rattle.cells.proofs.read.is_null.Reads as is-null
 use Rattle.cells.proofs.read.is_empty.Reads as is-empty
 use Rattle.cells.proofs.search.lowest.Reads as lowest
 use Rattle.cells.proofs.write.clear.Reads as clear
+use Rattle.cells.proofs.write.store.Reads as store
 
 -- ---- readers
 
@@ -81,6 +82,13 @@ pub clear-settled : (κs : _) (a : _) (e f : _) → clear.Pre κs a → clear.Po
     → length (now (f .0)) ≡ length (now (a .0)) → length (now (f .1 .0)) ≡ length (now (a .1 .0))
     → holding (now (e .0)) (now (e .1 .0)) ≡ holding (now (f .0)) (now (f .1 .0))
 clear-settled κs a e f pre p q v c u d =
+    one-buffers _ _ _ _ _ (v ∙ pre .0 .values) (c ∙ pre .0 .classes) (u ∙ pre .0 .values) (d ∙ pre .0 .classes) (p ∙ sym q)
+
+pub store-settled : (κs : _) (a : _) (e f : _) → store.Pre κs a → store.Post κs a tt e → store.Post κs a tt f
+    → length (now (e .0)) ≡ length (now (a .0)) → length (now (e .1 .0)) ≡ length (now (a .1 .0))
+    → length (now (f .0)) ≡ length (now (a .0)) → length (now (f .1 .0)) ≡ length (now (a .1 .0))
+    → holding (now (e .0)) (now (e .1 .0)) ≡ holding (now (f .0)) (now (f .1 .0))
+store-settled κs a e f pre p q v c u d =
     one-buffers _ _ _ _ _ (v ∙ pre .0 .values) (c ∙ pre .0 .classes) (u ∙ pre .0 .values) (d ∙ pre .0 .classes) (p ∙ sym q)
 
 pub put-value-settled : (κs : _) (a : _) (e f : _) → put-value.Pre κs a → put-value.Post κs a tt e → put-value.Post κs a tt f

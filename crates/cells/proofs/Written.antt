@@ -1,9 +1,9 @@
 -- A row written cell after cell, and what the rows of a level are to a search.
 -- Assumes nothing.
-use Prim.Native.Nat.{ℕ, suc, _+_, _≤_, _<_}
+use Prim.Native.Nat.{ℕ, zero, suc, _+_, _≤_, _<_}
 use mathlib.Core.Path.{_≡_, refl, sym, ap, _∙_, fun-ext}
 use mathlib.Core.Bool.{Bool, true, false, _&&_}
-use mathlib.Core.List.{List}
+use mathlib.Core.List.{List, [], _∷_}
 use native.Mathlib.Numerals.{add-one}
 use native.Mathlib.Omega.{arith}
 use lib.Dec.{eqb, ltb}
@@ -17,7 +17,7 @@ use Rattle.model.specs.Description.{between, rowCount}
 use Rattle.model.specs.Tables.{Cell, Row, cell, nocell, same, Level, State}
 use Rattle.model.specs.Buffers.{stateOf}
 use Rattle.model.proofs.Sound.{between-r}
-use Rattle.cells.specs.Changed.{holding, valueAt, classAt, keyPlace, entityPlace, withCell, withRow, changeLevel}
+use Rattle.cells.specs.Changed.{holding, valueAt, classAt, keyPlace, entityPlace, withCell, withRow, changeLevel, listedRow}
 use Rattle.cells.proofs.Cells.{state-cell, state-path}
 
 -- ---- a row, cell after cell
@@ -70,6 +70,34 @@ row-more l n r i R S₀ p q =
 
 pub row-end : (l n m r i : ℕ) (R : Row) (S₀ : State) {S : State} → S ≡ changeLevel l (withRow m r i R) S₀ → m ≡ n → S ≡ changeLevel l (withRow n r i R) S₀
 row-end l n m r i R S₀ {S} p e = rw e at p
+
+-- two rows that agree on the columns are stored alike
+rows-alike : (n r i : ℕ) (R Q : Row) → ((k : ℕ) → k ≤ n → R k ≡ Q k) → (B : Level) → withRow n r i R B ≡ withRow n r i Q B
+unfolding withRow
+rows-alike n r i R Q e B =
+    level-path (λ s j m.
+    cases (eqb r s)
+    (λ t. cases (eqb i j)
+    (λ u. cases (between 1 n m) (λ w. rw (t, u, w) (e m (of-true (between-r 1 n m) w .1))) (λ w. rw (t, u, w)))
+    (λ u. rw (t, u)))
+    (λ t. rw t))
+
+pub row-as : (l n r i : ℕ) (R Q : Row) (S : State) → ((k : ℕ) → k ≤ n → R k ≡ Q k) → changeLevel l (withRow n r i R) S ≡ changeLevel l (withRow n r i Q) S
+row-as l n r i R Q S e = ap (λ (f : Level → Level). changeLevel l f S) (fun-ext (rows-alike n r i R Q e))
+
+-- nine nulls are an empty row
+pub nulls-empty : (k : ℕ) → k ≤ 8 → listedRow (0 ∷ 0 ∷ 0 ∷ 0 ∷ 0 ∷ 0 ∷ 0 ∷ 0 ∷ 0 ∷ []) (255 ∷ 255 ∷ 255 ∷ 255 ∷ 255 ∷ 255 ∷ 255 ∷ 255 ∷ 255 ∷ []) k ≡ nocell
+unfolding listedRow
+nulls-empty zero h = refl
+nulls-empty (suc zero) h = refl
+nulls-empty (suc (suc zero)) h = refl
+nulls-empty (suc (suc (suc zero))) h = refl
+nulls-empty (suc (suc (suc (suc zero)))) h = refl
+nulls-empty (suc (suc (suc (suc (suc zero))))) h = refl
+nulls-empty (suc (suc (suc (suc (suc (suc zero)))))) h = refl
+nulls-empty (suc (suc (suc (suc (suc (suc (suc zero))))))) h = refl
+nulls-empty (suc (suc (suc (suc (suc (suc (suc (suc zero)))))))) h = refl
+nulls-empty (suc (suc (suc (suc (suc (suc (suc (suc (suc k))))))))) h = absurd (omega arith)
 
 -- ---- an entity's row, from the row that has the key
 

@@ -35,6 +35,10 @@ entityPlace d values classes r l v c =
     let i = keyPlace d values r l v in
     if ltb i (rowCount d r) && eqb (classAt d classes r l i 1) c then i else rowCount d r
 
+-- the row whose cells two lists have, by column
+unfoldable pub listedRow : List ℕ → List ℕ → Row
+listedRow values classes k = cell (getD values k 0) (getD classes k 0)
+
 -- a level with one cell changed
 unfoldable pub withCell : ℕ → ℕ → ℕ → Cell → Level → Level
 withCell r i k x B = record { rows = λ s j m. if eqb r s && (eqb i j && eqb k m) then x else B .rows s j m }

@@ -11,7 +11,7 @@ ghost use Rattle.model.specs.Description.{columnCount};
 ghost use Rattle.model.specs.Tables.{cell, norow};
 ghost use Rattle.model.specs.Buffers.{inside, stateOf};
 ghost use Rattle.cells.specs.Layout.{Sized, Lent, InRow};
-ghost use Rattle.cells.specs.Changed.{holding, changeLevel, withCell, withValue, withRow};
+ghost use Rattle.cells.specs.Changed.{holding, changeLevel, withCell, withValue, withRow, listedRow};
 
 // A cell is stored.
 pub fn put(
@@ -54,6 +54,41 @@ pub fn put_value(
     values[at] = value;
 }
 
+// A row comes into use: it becomes these cells, by column.
+pub fn store(
+    values: &mut [u32],
+    classes: &mut [u8],
+    description: Description,
+    relation: usize,
+    part: Part,
+    level: usize,
+    row: usize,
+    news: [u32; 9],
+    owners: [u8; 9],
+)
+    requires { ⌜ Lent description relation part (length (now values)) (length (now classes)) ⌝ }
+    requires { ⌜ InRow description relation level row ⌝ }
+    ensures { λ _. ⌜ stateOf description (holding (now (values .exit)) (now (classes .exit))) ≡ changeLevel level (withRow (columnCount description relation) relation row (listedRow news owners)) (stateOf description (holding (now (values .entry)) (now (classes .entry)))) ⌝ }
+{
+    let columns = part.columns;
+    let mut column = 0;
+    while column < columns {
+        column += 1;
+        put(
+            values,
+            classes,
+            description,
+            relation,
+            part,
+            level,
+            row,
+            column,
+            news[column],
+            owners[column],
+        );
+    }
+}
+
 // A row goes out of use: it becomes empty throughout.
 pub fn clear(
     values: &mut [u32],
@@ -68,21 +103,15 @@ pub fn clear(
     requires { ⌜ InRow description relation level row ⌝ }
     ensures { λ _. ⌜ stateOf description (holding (now (values .exit)) (now (classes .exit))) ≡ changeLevel level (withRow (columnCount description relation) relation row norow) (stateOf description (holding (now (values .entry)) (now (classes .entry)))) ⌝ }
 {
-    let columns = part.columns;
-    let mut column = 0;
-    while column < columns {
-        put(
-            values,
-            classes,
-            description,
-            relation,
-            part,
-            level,
-            row,
-            column + 1,
-            0,
-            255,
-        );
-        column += 1;
-    }
+    store(
+        values,
+        classes,
+        description,
+        relation,
+        part,
+        level,
+        row,
+        [0; 9],
+        [255; 9],
+    );
 }

@@ -1,8 +1,8 @@
 // The judge of tables: whether a description is sound, whether two buffers are as long as it says, and whether they hold legal tables.
 mod areas;
-mod cells;
 mod describe;
 mod keys;
+mod lenders;
 mod references;
 mod rows;
 mod words;

@@ -1,84 +1,24 @@
--- The invariant: the first columns of the row are empty, and nothing else has changed.
-use Prim.Native.Nat.{ℕ, _≤_, _<_, _-_, _+_}
-use mathlib.Core.Path.{_≡_, refl, sym, _∙_}
+use mathlib.Core.Path.{_∙_}
 use native.Mathlib.Omega.{arith}
 use borrow.Author.Needs.{needs}
-use lib.ListN.{length}
 use Rattle.model.specs.Tables.{norow}
-use Rattle.model.specs.Buffers.{stateOf}
-use Rattle.cells.specs.Changed.{holding, withRow, changeLevel}
-use Rattle.model.proofs.Border.{inside-shown}
-use Rattle.cells.proofs.Written.{row-start, row-more, row-end}
+use Rattle.cells.proofs.Written.{row-as, nulls-empty}
 use Rattle.cells.proofs.write.clear.Statement.{statement}
 use Rattle.cells.proofs.write.clear.Tie as tie
 
-abbrev Inv-loop : tie.InvT-loop
-Inv-loop values₀ classes₀ description relation part level row columns column₀ values classes column =
-    (column ≤ columns)
-    × (length values ≡ length values₀)
-    × (length classes ≡ length classes₀)
-    × (stateOf description (holding values classes) ≡ changeLevel level (withRow column relation row norow) (stateOf description (holding values₀ classes₀)))
+store-requires : tie.Need-store-requires
+store-requires c κs = search needs
 
-abbrev μ-loop : tie.MeasureT-loop
-μ-loop values₀ classes₀ description relation part level row columns column₀ values classes column = columns - column
+same-length : tie.Need-same-length
+same-length c = search needs
 
-loop-holds : tie.Need-loop-holds Inv-loop μ-loop
-loop-holds c = (omega arith, refl, refl, row-start _ _ _ _ _)
+same-length-2 : tie.Need-same-length-2
+same-length-2 c = search needs
 
-add-put : tie.Need-add-put Inv-loop μ-loop
-add-put c = let s = c .before .before .before .before .before .before in omega (arith, s .pre .0 .laid .narrow)
-
-put-requires : tie.Need-put-requires Inv-loop μ-loop
-put-requires c κs =
-    let s = c .before .before .before .before .before .before in
-    let l = c .before .before .before .loop in (
-      record { laid = s .pre .0 .laid; values = l .inv .1 ∙ s .pre .0 .values; classes = l .inv .2 ∙ s .pre .0 .classes },
-      inside-shown _ _ _ _ _ (record {
-        relation = s .pre .1 .level .relation;
-        level = s .pre .1 .level .level;
-        row = s .pre .1 .row;
-        least = omega arith;
-        column = omega (arith, s .pre .0 .laid .columns, c .before .before .loop-test .taken);
-      }),
-    )
-
-add-column : tie.Need-add-column Inv-loop μ-loop
-add-column c =
-    let s = c .before .before .before .before .before .before .before .before .before .before .before in
-    omega (arith, s .pre .0 .laid .narrow)
-
-loop-less : tie.Need-loop-less Inv-loop μ-loop
-loop-less c = omega arith
-
-loop-again : tie.Need-loop-again Inv-loop μ-loop
-loop-again c =
-    let k = c .before .before .before .before .put in
-    let l = c .before .before .before .before .before .before .before .before .loop in
-    (omega arith, k .kept .0 ∙ l .inv .1, k .kept .1 .0 ∙ l .inv .2, row-more _ _ _ _ _ _ (l .inv .3) (k .ensures))
-
-same-length : tie.Need-same-length Inv-loop μ-loop
-same-length c = c .before .loop .inv .1
-
-same-length-2 : tie.Need-same-length-2 Inv-loop μ-loop
-same-length-2 c = c .before .loop .inv .2
-
-returns : tie.Need-returns Inv-loop μ-loop
+returns : tie.Need-returns
 returns c =
-    let s = c .before .before .before .before in
-    row-end _ _ _ _ _ _ _ (c .before .loop .inv .3) (omega (arith, s .pre .0 .laid .columns, c .before .loop .inv .0, c .loop-test .left))
+    let s = c .before .before .before .before .before .before .before .before .before in
+    c .before .before .before .before .store .ensures ∙ row-as _ _ _ _ _ norow _ (λ k h. nulls-empty k (omega (arith, s .pre .0 .laid .narrow, s .pre .0 .laid .columns)))
 
 pub clear-spec : {M : Type 1} → statement M
-clear-spec =
-    tie.close
-    (tie.spec
-    Inv-loop
-    μ-loop
-    loop-holds
-    add-put
-    put-requires
-    add-column
-    loop-less
-    loop-again
-    same-length
-    same-length-2
-    returns)
+clear-spec = tie.close (tie.spec store-requires same-length same-length-2 returns)

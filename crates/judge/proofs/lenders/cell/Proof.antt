@@ -3,8 +3,8 @@ use native.Mathlib.Omega.{arith}
 use borrow.Author.Tests.{not-true, not-false}
 use Rattle.judge.proofs.Columns.{at-spot, at-null, at-unfit, at-level, at-own, at-lent}
 use borrow.Author.Needs.{needs}
-use Rattle.judge.proofs.cells.cell.Statement.{statement}
-use Rattle.judge.proofs.cells.cell.Tie as tie
+use Rattle.judge.proofs.lenders.cell.Statement.{statement}
+use Rattle.judge.proofs.lenders.cell.Tie as tie
 
 near : (s : tie.Start) → let a = s .args in a .row + a .k < a .area .start + a .d .levels * a .area .rows * a .area .cols
 near s = at-spot _ _ _ _ _ (s .pre .0 .0) _ _ _ _ _ _ (s .pre .0 .1) (s .pre .0 .2)

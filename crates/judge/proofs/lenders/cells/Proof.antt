@@ -10,8 +10,8 @@ use Rattle.judge.specs.Facts.{tablesOf, Known}
 use Rattle.model.specs.Judge.{cellRight}
 use Rattle.judge.proofs.Places.{known-none}
 use Rattle.judge.proofs.Columns.{fitting}
-use Rattle.judge.proofs.cells.cells.Statement.{statement}
-use Rattle.judge.proofs.cells.cells.Tie as tie
+use Rattle.judge.proofs.lenders.cells.Statement.{statement}
+use Rattle.judge.proofs.lenders.cells.Tie as tie
 
 abbrev Inv-loop : tie.InvT-loop
 Inv-loop values classes keys ranges d area level i row word key kc column cols cache₀ k₀ cache k = (k ≤ area .cols) × (allBelow k (λ j. cellRight d (tablesOf d values classes) (area .relation) level (tablesOf d values classes (area .relation) level i) (suc j)) ≡ true) × Known d (tablesOf d values classes) area key kc cache

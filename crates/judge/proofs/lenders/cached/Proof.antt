@@ -2,8 +2,8 @@ use mathlib.Core.Logic.{⊎-elim}
 use native.Mathlib.Omega.{arith}
 use Rattle.judge.proofs.Places.{known-set}
 use borrow.Author.Needs.{needs}
-use Rattle.judge.proofs.cells.cached.Statement.{statement}
-use Rattle.judge.proofs.cells.cached.Tie as tie
+use Rattle.judge.proofs.lenders.cached.Statement.{statement}
+use Rattle.judge.proofs.lenders.cached.Tie as tie
 
 mul-known : tie.Need-mul-known
 mul-known c = search needs

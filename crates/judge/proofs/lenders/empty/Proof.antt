@@ -7,8 +7,8 @@ use Rattle.bounded.specs.Bounded.{allBelow}
 use Rattle.bounded.proofs.All.{all-start, all-more, all-fails, all-end}
 use Rattle.judge.specs.Facts.{tablesOf}
 use Rattle.model.specs.Tables.{same, nocell, emptyRow}
-use Rattle.judge.proofs.cells.empty.Statement.{statement}
-use Rattle.judge.proofs.cells.empty.Tie as tie
+use Rattle.judge.proofs.lenders.empty.Statement.{statement}
+use Rattle.judge.proofs.lenders.empty.Tie as tie
 
 abbrev Inv-loop : tie.InvT-loop
 Inv-loop values classes keys d area level i row cols k₀ k = (k ≤ area .cols) × (allBelow k (λ j. same (tablesOf d values classes (area .relation) level i (suc j)) nocell) ≡ true)

@@ -1,8 +1,8 @@
 use Prim.Native.Nat.{_<_}
 use native.Mathlib.Omega.{arith}
 use Rattle.judge.proofs.Places.{block, spot, spot-row, lender-absent, lender-other, lender-is}
-use Rattle.judge.proofs.cells.lender.Statement.{statement}
-use Rattle.judge.proofs.cells.lender.Tie as tie
+use Rattle.judge.proofs.lenders.lender.Statement.{statement}
+use Rattle.judge.proofs.lenders.lender.Tie as tie
 
 mul-from : tie.Need-mul-from
 mul-from c = let s = c .before .before .before in omega (arith, block _ _ _ _ _ (s .pre .0) (s .args .level) (s .pre .1 .level))

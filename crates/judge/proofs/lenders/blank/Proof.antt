@@ -1,8 +1,8 @@
 use Prim.Native.Nat.{_+_, _*_, _<_}
 use native.Mathlib.Omega.{arith}
 use Rattle.judge.proofs.Columns.{stood-spot, stood-full, stood-null}
-use Rattle.judge.proofs.cells.blank.Statement.{statement}
-use Rattle.judge.proofs.cells.blank.Tie as tie
+use Rattle.judge.proofs.lenders.blank.Statement.{statement}
+use Rattle.judge.proofs.lenders.blank.Tie as tie
 
 near : (s : tie.Start) → let a = s .args in a .row + a .k < a .area .start + a .d .levels * a .area .rows * a .area .cols
 near s = stood-spot _ _ _ _ _ (s .pre .0 .0) _ _ _ _ (s .pre .1 .level) (s .pre .1 .below) (s .pre .1 .stands) (s .pre .0 .1)

@@ -3,10 +3,10 @@ use mathlib.Core.Path.{sym, _∙_}
 use native.Mathlib.Omega.{arith}
 use Rattle.judge.specs.Facts.{tablesOf}
 use Rattle.judge.proofs.Places.{Lent, lends-none, lends-some, lent-spot, lent-other, lent-same, same-class}
-use Rattle.judge.proofs.cells.lent.Statement.{statement}
-use Rattle.judge.proofs.cells.lent.Tie as tie
-use Rattle.judge.proofs.cells.lent.Reads as reads
-use Rattle.judge.proofs.cells.lent.Lts as lts
+use Rattle.judge.proofs.lenders.lent.Statement.{statement}
+use Rattle.judge.proofs.lenders.lent.Tie as tie
+use Rattle.judge.proofs.lenders.lent.Reads as reads
+use Rattle.judge.proofs.lenders.lent.Lts as lts
 
 -- the lender's row, where there is one
 from : (c : lts.Else1 reads.Pre reads.Post) → let a = c .before .args in
