@@ -7,13 +7,13 @@ use Prim.Native.Nat.{ℕ, _<_, _≤_}
 use native.Mathlib.Omega.{arith}
 use native.Mathlib.Decide.{decLt}
 use lib.Dec.{ltb}
-use lib.ListN.{getD}
+use lib.ListN.{length, getD}
 use borrow.Author.Tests.{ltb-true, lt-ltb, le-ltb}
 use Rattle.level.specs.Label.{dominates}
 use Rattle.level.specs.Order.{levelDominates, rowOf, orderOf, entryOf}
 use Rattle.level.specs.Laws.{Distinct, LevelLaws, OrderLaws}
 use Rattle.level.proofs.Laws.{label-laws, and-true}
-use Rattle.level.proofs.Fill.{getD-upTo}
+use Rattle.level.proofs.Fill.{getD-upTo, length-upTo}
 
 not-lt : {a b : ℕ} → (a < b → ⊥) → b ≤ a
 not-lt h = omega arith
@@ -88,3 +88,8 @@ module _ (labels : List ℕ) (n : ℕ) where
 pub entry-read : (order : List (List Bool)) (a b : ℕ) → a < 16 → b < 16 → entryOf order a b ≡ getD (getD order a []) b false
 unfolding entryOf
 entry-read order a b h k = rw (lt-ltb a 16 h, lt-ltb b 16 k)
+
+-- each row of the order has 16 entries
+pub row-long : (labels : List ℕ) (n a : ℕ) → a < 16 → length (getD (orderOf labels n) a []) ≡ 16
+unfolding orderOf rowOf
+row-long labels n a h = rw (getD-upTo 16 (rowOf labels n) a [] h) (length-upTo 16 (levelDominates labels n a))
