@@ -60,13 +60,16 @@ pub fn legal(
     )
 }
 
-// What is to be said of a description and two buffers: the first of what is wrong.
-pub fn judge(description: Description, values: &[u32], classes: &[u8]) -> Verdict
+// What is to be said of a description and two buffers, where the order is laid out: the first of what is wrong.
+pub fn verdict(
+    description: Description,
+    order: [[bool; 16]; 16],
+    values: &[u32],
+    classes: &[u8],
+) -> Verdict
+    requires { ⌜ order ≡ orderOf (description .labels) (description .levels) ⌝ }
     ensures { λ r. ⌜ r ≡ judges.judge description (record { values = now (values .entry); classes = now (classes .entry) }) ⌝ }
 {
-    let levels = areas::wide(description.levels);
-    let labels = description.labels;
-    let order = level::order(labels, levels);
     if !describe::ordered(description, order) {
         return Verdict::Description;
     }
@@ -81,4 +84,14 @@ pub fn judge(description: Description, values: &[u32], classes: &[u8]) -> Verdic
         return Verdict::Illegal;
     }
     Verdict::Legal
+}
+
+// The same for any description: the order is laid out first.
+pub fn judge(description: Description, values: &[u32], classes: &[u8]) -> Verdict
+    ensures { λ r. ⌜ r ≡ judges.judge description (record { values = now (values .entry); classes = now (classes .entry) }) ⌝ }
+{
+    let levels = areas::wide(description.levels);
+    let labels = description.labels;
+    let order = level::order(labels, levels);
+    verdict(description, order, values, classes)
 }
