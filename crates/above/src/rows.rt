@@ -1,0 +1,205 @@
+// The rows above of the relation that a statement is about.
+use crate::Plan;
+use crate::find::touched;
+use cells::layout::Part;
+use cells::read::class_at;
+use cells::read::value_at;
+use cells::write::clear;
+use cells::write::put;
+use model::Description;
+ghost use mathlib.Core.Path.{_≡_};
+ghost use mathlib.Core.Bool.{true};
+ghost use lib.ListN.{length};
+ghost use Rattle.model.specs.Description.{rowCount, columnCount};
+ghost use Rattle.model.specs.Tables.{cell as cellOf};
+ghost use Rattle.model.specs.Buffers.{inside, stateOf};
+ghost use Rattle.cells.specs.Layout.{Lent, InLevel, InRow};
+ghost use Rattle.cells.specs.Changed.{holding, changeLevel, withCell, withRow};
+ghost use Rattle.above.specs.Facts.{OneRow, Apart, becomes, turned, rowAfter, withRows};
+
+// The value of a cell of the subject's class afterwards.
+fn value(kind: u8, planned: u32, owner: u8, subject: u8, x: u32) -> u32
+    ensures { λ r. ⌜ r ≡ becomes kind (cellOf planned owner) (cellOf x subject) .value ⌝ }
+{
+    if kind == 1 {
+        return planned;
+    }
+    if kind != 2 {
+        return x;
+    }
+    if owner != subject {
+        return 0;
+    }
+    if x != planned {
+        return 0;
+    }
+    x
+}
+
+// Its class afterwards.
+fn class(kind: u8, planned: u32, owner: u8, subject: u8, x: u32) -> u8
+    ensures { λ r. ⌜ r ≡ becomes kind (cellOf planned owner) (cellOf x subject) .class ⌝ }
+{
+    if kind == 1 {
+        return owner;
+    }
+    subject
+}
+
+// A cell of the subject's class changes as planned.
+fn cell(
+    values: &mut [u32],
+    classes: &mut [u8],
+    description: Description,
+    relation: usize,
+    part: Part,
+    plan: Plan,
+    subject: u8,
+    level: usize,
+    row: usize,
+    column: usize,
+)
+    requires { ⌜ Lent description relation part (length (now values)) (length (now classes)) ⌝ }
+    requires { ⌜ inside description relation level row column ≡ true ⌝ }
+    ensures { λ _. ⌜ stateOf description (holding (now (values .exit)) (now (classes .exit))) ≡ changeLevel level (withCell relation row column (turned plan subject column (stateOf description (holding (now (values .entry)) (now (classes .entry))) level .rows relation row column))) (stateOf description (holding (now (values .entry)) (now (classes .entry)))) ⌝ }
+{
+    let owned = class_at(classes, description, relation, part, level, row, column);
+    if owned != subject {
+        return;
+    }
+    let x = value_at(values, description, relation, part, level, row, column);
+    let kind = plan.kinds[column];
+    let planned = plan.values[column];
+    let owner = plan.classes[column];
+    let new = value(kind, planned, owner, subject, x);
+    let whose = class(kind, planned, owner, subject, x);
+    put(
+        values,
+        classes,
+        description,
+        relation,
+        part,
+        level,
+        row,
+        column,
+        new,
+        whose,
+    );
+}
+
+// The cells of a row.
+fn cells(
+    values: &mut [u32],
+    classes: &mut [u8],
+    description: Description,
+    relation: usize,
+    part: Part,
+    plan: Plan,
+    subject: u8,
+    level: usize,
+    row: usize,
+)
+    requires { ⌜ Lent description relation part (length (now values)) (length (now classes)) ⌝ }
+    requires { ⌜ InRow description relation level row ⌝ }
+    ensures { λ _. ⌜ stateOf description (holding (now (values .exit)) (now (classes .exit))) ≡ changeLevel level (withRow (columnCount description relation) relation row (λ k. turned plan subject k (stateOf description (holding (now (values .entry)) (now (classes .entry))) level .rows relation row k))) (stateOf description (holding (now (values .entry)) (now (classes .entry)))) ⌝ }
+{
+    let columns = part.columns;
+    let mut column = 0;
+    while column < columns {
+        cell(
+            values,
+            classes,
+            description,
+            relation,
+            part,
+            plan,
+            subject,
+            level,
+            row,
+            column + 1,
+        );
+        column += 1;
+    }
+}
+
+// A row: it stays, is emptied, or its cells of the subject's class change.
+fn row(
+    values: &mut [u32],
+    classes: &mut [u8],
+    description: Description,
+    relation: usize,
+    part: Part,
+    plan: Plan,
+    subject: u8,
+    level: usize,
+    row: usize,
+)
+    requires { ⌜ Lent description relation part (length (now values)) (length (now classes)) × InRow description relation level row ⌝ }
+    requires { ⌜ InLevel description relation subject × OneRow description (now values) relation subject ⌝ }
+    ensures { λ _. ⌜ stateOf description (holding (now (values .exit)) (now (classes .exit))) ≡ changeLevel level (withRow (columnCount description relation) relation row (rowAfter (rowCount description relation) plan subject (stateOf description (holding (now (values .entry)) (now (classes .entry))) subject .rows relation) (stateOf description (holding (now (values .entry)) (now (classes .entry))) level .rows relation row))) (stateOf description (holding (now (values .entry)) (now (classes .entry)))) ⌝ }
+{
+    let marks = plan.marks;
+    let at = subject as usize;
+    if !touched(
+        values,
+        classes,
+        description,
+        relation,
+        part,
+        marks,
+        at,
+        level,
+        row,
+    ) {
+        return;
+    }
+    let class = class_at(classes, description, relation, part, level, row, 1);
+    if plan.gone && class == subject {
+        clear(values, classes, description, relation, part, level, row);
+        return;
+    }
+    cells(
+        values,
+        classes,
+        description,
+        relation,
+        part,
+        plan,
+        subject,
+        level,
+        row,
+    );
+}
+
+// Every row of the relation at a level.
+pub fn rows(
+    values: &mut [u32],
+    classes: &mut [u8],
+    description: Description,
+    relation: usize,
+    part: Part,
+    plan: Plan,
+    subject: u8,
+    level: usize,
+)
+    requires { ⌜ Lent description relation part (length (now values)) (length (now classes)) × InLevel description relation level ⌝ }
+    requires { ⌜ Apart subject level × InLevel description relation subject × OneRow description (now values) relation subject ⌝ }
+    ensures { λ _. ⌜ stateOf description (holding (now (values .exit)) (now (classes .exit))) ≡ changeLevel level (withRows (rowCount description relation) (columnCount description relation) relation (λ i. rowAfter (rowCount description relation) plan subject (stateOf description (holding (now (values .entry)) (now (classes .entry))) subject .rows relation) (stateOf description (holding (now (values .entry)) (now (classes .entry))) level .rows relation i))) (stateOf description (holding (now (values .entry)) (now (classes .entry)))) ⌝ }
+{
+    let rows = part.rows;
+    let mut i = 0;
+    while i < rows {
+        row(
+            values,
+            classes,
+            description,
+            relation,
+            part,
+            plan,
+            subject,
+            level,
+            i,
+        );
+        i += 1;
+    }
+}
