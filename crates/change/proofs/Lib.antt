@@ -1,0 +1,6 @@
+pub mod Answers
+pub mod Known
+pub mod Numbers
+pub mod Pairs
+pub mod Settled
+pub mod Sought
