@@ -1,5 +1,7 @@
 pub mod Carried
 pub mod Changes
+pub mod Levels
+pub mod Reached
 pub mod Referred
 pub mod Rewritten
 pub mod Settled

@@ -1,6 +1,6 @@
 -- What a statement is answered: the first of its tests that fails. What its subject sees of its own level, and the tables that an effect leaves.
 -- Assumes nothing.
-use Prim.Native.Nat.{ℕ, _≤_, _<_}
+use Prim.Native.Nat.{ℕ}
 use mathlib.Core.Path.{_≡_, refl, sym, ap, ap₂, _∙_, fun-ext}
 use mathlib.Core.Bool.{Bool, true, false}
 use mathlib.Core.List.{List, [], _∷_}
@@ -11,20 +11,19 @@ use lib.Dec.{eqb}
 use lib.ListN.{length}
 use borrow.Author.Tests.{eq-eqb, ne-eqb}
 use Rattle.bounded.proofs.Cases.{cases}
-use Rattle.bounded.proofs.Reflection.{is-true, of-true, and-r, eqb-r}
+use Rattle.bounded.proofs.Reflection.{is-true, and-r, eqb-r}
 use Rattle.model.specs.declared.Description.{Description}
 use Rattle.model.specs.declared.Fault.{Fault}
 use Rattle.model.specs.declared.Answer.{Answer}
-use Rattle.model.specs.Description.{between, over, foreignOf, refersOf, totalOf}
-use Rattle.model.specs.Tables.{Row, Tables, Level, State, rowsOf, seen, same, at}
+use Rattle.model.specs.Description.{over, foreignOf, refersOf, totalOf}
+use Rattle.model.specs.Tables.{Row, Tables, State, rowsOf, seen, same, at}
 use Rattle.model.specs.Buffers.{fitting, stateOf, buffersOf}
 use Rattle.model.specs.Listed.{listed}
 use Rattle.model.specs.Effect.{Effect, Above, keep, changed, goneAt, reach, carry, applied, namesRow}
 use Rattle.model.specs.Insert.{listedNames}
 use Rattle.model.specs.Run.{firstFault, left}
-use Rattle.model.proofs.Sound.{between-r}
 use Rattle.model.proofs.Border.{buffers-state}
-use Rattle.cells.specs.Changed.{holding, withRow, changeLevel}
+use Rattle.cells.specs.Changed.{holding}
 use Rattle.theory.proofs.Seen.{seen-at}
 use Rattle.change.specs.Facts.{Answered, refuses, does}
 
@@ -89,23 +88,6 @@ module _ (d : Description) (c : ℕ) (E : Effect) (S : State) where
       cases (over d l c)
       (λ o. left-over r l i k m o ∙ reach-still d (at d (rowsOf S)) c (E .above) g n r l (S l .rows r i) k)
       (λ o. left-other r l i k m o)
-
--- two rows that agree on the columns are stored alike
-rows-alike : (n r i : ℕ) (R Q : Row) → ((k : ℕ) → 0 < k → k ≤ n → R k ≡ Q k) → (B : Level) → withRow n r i R B ≡ withRow n r i Q B
-unfolding withRow
-rows-alike n r i R Q e B =
-    ap (λ (D : ℕ → ℕ → Row). record { rows = D }) (fun-ext (λ s. fun-ext (λ j. fun-ext (λ m. here s j m))))
-  where
-    here : (s j m : ℕ) → withRow n r i R B .rows s j m ≡ withRow n r i Q B .rows s j m
-    here s j m =
-        cases (eqb r s)
-        (λ t. cases (eqb i j)
-        (λ u. cases (between 1 n m) (λ w. let h = of-true (between-r 1 n m) w in rw (t, u, w) (e m (h .0) (h .1))) (λ w. rw (t, u, w)))
-        (λ u. rw (t, u)))
-        (λ t. rw t)
-
-pub row-alike : (l n r i : ℕ) (R Q : Row) (S : State) → ((k : ℕ) → 0 < k → k ≤ n → R k ≡ Q k) → changeLevel l (withRow n r i R) S ≡ changeLevel l (withRow n r i Q) S
-row-alike l n r i R Q S e = ap (λ (f : Level → Level). changeLevel l f S) (fun-ext (rows-alike n r i R Q e))
 
 -- ---- at most one outcome
 

@@ -1,12 +1,11 @@
 -- INSERT: when it is well formed, its tests in their order, and the tables that it leaves.
 -- Assumes nothing.
-use Prim.Native.Nat.{ℕ, _+_, _*_, _%_, _≤_, _<_}
+use Prim.Native.Nat.{ℕ, _%_, _≤_, _<_}
 use mathlib.Core.Path.{_≡_, refl, sym, ap, ap₂, _∙_}
 use mathlib.Core.Bool.{Bool, true, false, not, _&&_}
 use mathlib.Core.List.{List, [], _∷_}
 use mathlib.Core.Logic.{_≢_}
 use mathlib.Core.Option.{Option, none, some}
-use native.Mathlib.Omega.{arith}
 use lib.Dec.{eqb, ltb}
 use lib.ListN.{length}
 use borrow.Author.Tests.{eq-eqb, ne-eqb, eqb-true, lt-ltb, le-ltb}
@@ -14,7 +13,6 @@ use Rattle.bounded.specs.Tests.{if_then_else_}
 use Rattle.bounded.proofs.Cases.{cases, clash}
 use Rattle.bounded.proofs.Reflection.{is-false, of-true, of-false, bool-r, not-r, and-r, eqb-r}
 use Rattle.model.specs.declared.Description.{Description}
-use Rattle.model.specs.declared.Fault.{Fault}
 use Rattle.model.specs.declared.Fault.the-variants as Faults
 use Rattle.model.specs.declared.Answer.the-variants as Answers
 use Rattle.model.specs.Description.{between, isColumn, columnCount, inRange}

@@ -7,7 +7,7 @@ use lib.ListN.{length}
 use Rattle.model.specs.Buffers.{stateOf}
 use Rattle.cells.specs.Changed.{holding}
 use Rattle.above.specs.Facts.{carriedBelow}
-use Rattle.above.proofs.Carried.{levels-start, levels-more, levels-end, working-as, planned-as}
+use Rattle.above.proofs.Levels.{levels-start, levels-more, levels-end, working-as, planned-as}
 use Rattle.above.proofs.above.Statement.{statement}
 use Rattle.above.proofs.above.Tie as tie
 

@@ -3,7 +3,7 @@ use mathlib.Core.Path.{_∙_}
 use native.Mathlib.Omega.{arith}
 use borrow.Author.Needs.{needs}
 use borrow.Author.Tests.{not-true, not-false}
-use Rattle.above.proofs.Carried.{reached-own, reached-aside, reached-above, one-row-kept, few-levels, ordered, apart, related}
+use Rattle.above.proofs.Reached.{reached-own, reached-aside, reached-above, one-row-kept, few-levels, ordered, apart, related}
 use Rattle.above.proofs.Taken.{in-level}
 use Rattle.above.proofs.reach.reach.Statement.{statement}
 use Rattle.above.proofs.reach.reach.Tie as tie
