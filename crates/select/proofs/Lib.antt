@@ -1,0 +1,4 @@
+pub mod Found
+pub mod Heights
+pub mod Selected
+pub mod Shown

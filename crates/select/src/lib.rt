@@ -1,0 +1,411 @@
+// SELECT.
+use asked::conditions::count;
+use asked::conditions::marks;
+use asked::levels::exist;
+use asked::levels::lists;
+use asked::levels::once;
+use asked::levels::seen;
+use cells::layout::Part;
+use cells::read::class_at;
+use cells::read::value_at;
+use level::Label;
+use model::Answer;
+use model::Description;
+use model::Fault;
+ghost use mathlib.Core.Path.{_≡_};
+ghost use mathlib.Core.Bool.{true};
+ghost use mathlib.Core.List.{[], _∷_, _++_};
+ghost use lib.ListN.{length};
+ghost use Prim.Native.Nat.{_+_, _≤_, _<_};
+ghost use Rattle.bounded.specs.Lists.{writeAt};
+ghost use Rattle.model.specs.Description.{columnCount};
+ghost use Rattle.model.specs.Buffers.{stateOf};
+ghost use Rattle.model.specs.Select.{selectFormed, foundAt, asked as askedOf};
+ghost use Rattle.model.specs.Conditions.{conditionsFormed};
+ghost use Rattle.cells.specs.Layout.{Sized, Lent, InLevel, InRow};
+ghost use Rattle.cells.specs.Changed.{holding};
+ghost use Rattle.asked.specs.Facts.{Asking};
+ghost use Rattle.change.specs.Facts.{Standing, Selects};
+ghost use Rattle.select.specs.Facts.{Holds, InLevels, Room, Wrote, Stands, held, start, levelsAt, shownLevels, foundIn, valuesOf, ownersOf, rowShown, wanted as wantedOf};
+
+// Every AT level exists and none is listed twice.
+pub fn formed(list: &[u32], description: Description) -> bool
+    ensures { λ r. ⌜ r ≡ selectFormed description (now (list .entry)) ⌝ }
+{
+    if !exist(list, description) {
+        return false;
+    }
+    once(list)
+}
+
+// Levels in the order in which they are shown.
+struct Levels {
+    count: usize,
+    levels: [u8; 16],
+}
+
+// Whether a level is asked for: listed, or the subject's where none is.
+fn asked(list: &[u32], subject: usize, level: usize) -> bool
+    ensures { λ r. ⌜ r ≡ askedOf subject (now (list .entry)) level ⌝ }
+{
+    if list.len() == 0 {
+        return level == subject;
+    }
+    lists(list, level)
+}
+
+// Whether a level of that height is asked for.
+fn wanted(list: &[u32], description: Description, subject: usize, height: u32, level: usize) -> bool
+    requires { ⌜ level < 16 ⌝ }
+    ensures { λ r. ⌜ r ≡ wantedOf description subject (now (list .entry)) height level ⌝ }
+{
+    if Label(description.labels[level]).height() != height {
+        return false;
+    }
+    asked(list, subject, level)
+}
+
+// One level more.
+fn add(levels: Levels, level: u8) -> Levels
+    requires { ⌜ Holds (held levels) levels ⌝ }
+    requires { ⌜ levels .count < 16 ⌝ }
+    ensures { λ r. ⌜ Holds (held levels ++ (level ∷ [])) r ⌝ }
+{
+    let count = levels.count;
+    let mut next = levels.levels;
+    next[count] = level;
+    Levels {
+        count: count + 1,
+        levels: next,
+    }
+}
+
+// The levels of one height besides, by number.
+fn high(
+    list: &[u32],
+    description: Description,
+    subject: usize,
+    height: u32,
+    before: Levels,
+) -> Levels
+    requires { ⌜ Holds (held before) before ⌝ }
+    requires { ⌜ (description .levels ≤ 16) × (before .count + length (levelsAt description subject (now list) height) ≤ 16) ⌝ }
+    ensures { λ r. ⌜ Holds (held before ++ levelsAt description subject (now (list .entry)) height) r ⌝ }
+{
+    let levels = description.levels as usize;
+    let mut found = before;
+    let mut level = 0;
+    while level < levels {
+        if wanted(list, description, subject, height, level) {
+            found = add(found, level as u8);
+        }
+        level += 1;
+    }
+    found
+}
+
+// The levels by height, then number.
+fn lay(list: &[u32], description: Description, subject: usize) -> Levels
+    requires { ⌜ description .levels ≤ 16 ⌝ }
+    ensures { λ r. ⌜ Holds (shownLevels description subject (now (list .entry))) r ⌝ }
+{
+    let none = [0u8; 16];
+    let mut found = Levels {
+        count: 0,
+        levels: none,
+    };
+    let mut height = 0;
+    while height < 24 {
+        found = high(list, description, subject, height, found);
+        height += 1;
+    }
+    found
+}
+
+// How many rows are found.
+fn rows(
+    values: &[u32],
+    classes: &[u8],
+    conditions: &[u32],
+    description: Description,
+    order: [[bool; 16]; 16],
+    relation: usize,
+    part: Part,
+    levels: Levels,
+) -> u32
+    requires { ⌜ Lent description relation part (length (now values)) (length (now classes)) × InLevels description relation levels ⌝ }
+    requires { ⌜ Asking description order relation (now conditions) ⌝ }
+    ensures { λ r. ⌜ (r ≡ length (foundIn description relation (now (conditions .entry)) (stateOf description (holding (now (values .entry)) (now (classes .entry)))) levels)) × (r ≤ 1024) ⌝ }
+{
+    let total = levels.count;
+    let mut rows = 0;
+    let mut i = 0;
+    while i < total {
+        let marks = marks(
+            values,
+            classes,
+            conditions,
+            description,
+            order,
+            relation,
+            part,
+            levels.levels[i] as usize,
+        );
+        rows += count(marks, part.rows);
+        i += 1;
+    }
+    rows
+}
+
+// Where the next row goes in each buffer.
+struct At {
+    values: usize,
+    owners: usize,
+}
+
+// A row's values.
+fn copy(
+    values: &[u32],
+    shown: &mut [u32],
+    description: Description,
+    relation: usize,
+    part: Part,
+    level: usize,
+    row: usize,
+    at: usize,
+)
+    requires { ⌜ Sized description relation part (length (now values)) × InRow description relation level row ⌝ }
+    requires { ⌜ at + columnCount description relation ≤ length (now shown) ⌝ }
+    ensures { λ _. ⌜ now (shown .exit) ≡ writeAt at (valuesOf description (now (values .entry)) relation level row) (now (shown .entry)) ⌝ }
+{
+    let columns = part.columns;
+    let mut column = 0;
+    while column < columns {
+        shown[at + column] = value_at(values, description, relation, part, level, row, column + 1);
+        column += 1;
+    }
+}
+
+// A row's classes, then its TC.
+fn own(
+    classes: &[u8],
+    owners: &mut [u8],
+    description: Description,
+    relation: usize,
+    part: Part,
+    level: usize,
+    row: usize,
+    at: usize,
+)
+    requires { ⌜ Sized description relation part (length (now classes)) × InRow description relation level row ⌝ }
+    requires { ⌜ (level < 16) × (at + columnCount description relation < length (now owners)) ⌝ }
+    ensures { λ _. ⌜ now (owners .exit) ≡ writeAt at (ownersOf description (now (classes .entry)) relation level row) (now (owners .entry)) ⌝ }
+{
+    let columns = part.columns;
+    let mut column = 0;
+    while column < columns {
+        owners[at + column] = class_at(
+            classes,
+            description,
+            relation,
+            part,
+            level,
+            row,
+            column + 1,
+        );
+        column += 1;
+    }
+    owners[at + columns] = level as u8;
+}
+
+// A row where it is marked; where the next goes.
+fn put(
+    values: &[u32],
+    classes: &[u8],
+    shown: &mut [u32],
+    owners: &mut [u8],
+    description: Description,
+    relation: usize,
+    part: Part,
+    level: usize,
+    row: usize,
+    marked: bool,
+    at: At,
+) -> At
+    requires { ⌜ Lent description relation part (length (now values)) (length (now classes)) × (InRow description relation level row × (level < 16)) ⌝ }
+    requires { ⌜ Room (rowShown description relation (stateOf description (holding (now values) (now classes)) level .rows relation) level marked row) at (length (now shown)) (length (now owners)) ⌝ }
+    ensures { λ r. ⌜ Wrote (rowShown description relation (stateOf description (holding (now (values .entry)) (now (classes .entry))) level .rows relation) level marked row) at r (now (shown .entry)) (now (owners .entry)) (now (shown .exit)) (now (owners .exit)) ⌝ }
+{
+    if !marked {
+        return at;
+    }
+    copy(
+        values,
+        shown,
+        description,
+        relation,
+        part,
+        level,
+        row,
+        at.values,
+    );
+    own(
+        classes,
+        owners,
+        description,
+        relation,
+        part,
+        level,
+        row,
+        at.owners,
+    );
+    At {
+        values: at.values + part.columns,
+        owners: at.owners + part.columns + 1,
+    }
+}
+
+// The rows of a level that meet the conditions; where the next goes.
+fn show(
+    values: &[u32],
+    classes: &[u8],
+    conditions: &[u32],
+    shown: &mut [u32],
+    owners: &mut [u8],
+    description: Description,
+    order: [[bool; 16]; 16],
+    relation: usize,
+    part: Part,
+    level: usize,
+    before: At,
+) -> At
+    requires { ⌜ Lent description relation part (length (now values)) (length (now classes)) × (InLevel description relation level × Asking description order relation (now conditions)) ⌝ }
+    requires { ⌜ Room (foundAt description relation (now conditions) (stateOf description (holding (now values) (now classes))) level) before (length (now shown)) (length (now owners)) ⌝ }
+    ensures { λ r. ⌜ Wrote (foundAt description relation (now (conditions .entry)) (stateOf description (holding (now (values .entry)) (now (classes .entry)))) level) before r (now (shown .entry)) (now (owners .entry)) (now (shown .exit)) (now (owners .exit)) ⌝ }
+{
+    let marks = marks(
+        values,
+        classes,
+        conditions,
+        description,
+        order,
+        relation,
+        part,
+        level,
+    );
+    let rows = part.rows;
+    let mut at = before;
+    let mut row = 0;
+    while row < rows {
+        at = put(
+            values,
+            classes,
+            shown,
+            owners,
+            description,
+            relation,
+            part,
+            level,
+            row,
+            marks[row],
+            at,
+        );
+        row += 1;
+    }
+    at
+}
+
+// The rows of every level in order.
+fn write(
+    values: &[u32],
+    classes: &[u8],
+    conditions: &[u32],
+    shown: &mut [u32],
+    owners: &mut [u8],
+    description: Description,
+    order: [[bool; 16]; 16],
+    relation: usize,
+    part: Part,
+    levels: Levels,
+)
+    requires { ⌜ Lent description relation part (length (now values)) (length (now classes)) × (InLevels description relation levels × Asking description order relation (now conditions)) ⌝ }
+    requires { ⌜ Room (foundIn description relation (now conditions) (stateOf description (holding (now values) (now classes))) levels) start (length (now shown)) (length (now owners)) ⌝ }
+    ensures { λ _. ⌜ Stands (foundIn description relation (now (conditions .entry)) (stateOf description (holding (now (values .entry)) (now (classes .entry)))) levels) (now (shown .entry)) (now (owners .entry)) (now (shown .exit)) (now (owners .exit)) ⌝ }
+{
+    let total = levels.count;
+    let mut at = At {
+        values: 0,
+        owners: 0,
+    };
+    let mut i = 0;
+    while i < total {
+        at = show(
+            values,
+            classes,
+            conditions,
+            shown,
+            owners,
+            description,
+            order,
+            relation,
+            part,
+            levels.levels[i] as usize,
+            at,
+        );
+        i += 1;
+    }
+}
+
+// The tests, in their order, and then the rows.
+pub fn select(
+    values: &[u32],
+    classes: &[u8],
+    list: &[u32],
+    conditions: &[u32],
+    shown: &mut [u32],
+    owners: &mut [u8],
+    description: Description,
+    order: [[bool; 16]; 16],
+    relation: usize,
+    part: Part,
+    subject: usize,
+) -> Answer
+    requires { ⌜ Standing description order relation subject part (now values) (now classes) ⌝ }
+    requires { ⌜ (selectFormed description (now list) ≡ true) × (conditionsFormed description relation (now conditions) ≡ true) ⌝ }
+    ensures { λ r. ⌜ Selects description subject relation (now (list .entry)) (now (conditions .entry)) (now (values .entry)) (now (classes .entry)) (now (shown .entry)) (now (owners .entry)) (now (shown .exit)) (now (owners .exit)) r ⌝ }
+{
+    if !seen(list, description, order, subject) {
+        return Answer::Refused(Fault::Unseen);
+    }
+    let levels = lay(list, description, subject);
+    let found = rows(
+        values,
+        classes,
+        conditions,
+        description,
+        order,
+        relation,
+        part,
+        levels,
+    );
+    let columns = part.columns;
+    if shown.len() < found as usize * columns {
+        return Answer::Refused(Fault::Short);
+    }
+    if owners.len() < found as usize * (columns + 1) {
+        return Answer::Refused(Fault::Short);
+    }
+    write(
+        values,
+        classes,
+        conditions,
+        shown,
+        owners,
+        description,
+        order,
+        relation,
+        part,
+        levels,
+    );
+    Answer::Done { count: found }
+}
