@@ -1,0 +1,193 @@
+-- DELETE: the plan that is made for it, its test, and the tables that it leaves.
+-- Assumes nothing.
+use Prim.Native.Nat.{ℕ, suc, _≤_, _<_}
+use mathlib.Core.Path.{_≡_, refl, sym, ap, ap₂, _∙_, fun-ext}
+use mathlib.Core.Bool.{Bool, true, false, not, _&&_, _||_}
+use mathlib.Core.List.{List, [], _∷_}
+use mathlib.Core.Logic.{_≢_}
+use mathlib.Core.Option.{Option, none, some}
+use native.Mathlib.Omega.{arith}
+use lib.Dec.{eqb, ltb}
+use lib.ListN.{length, getD, replicate, getD-replicate, List·getD-eq-default}
+use borrow.Author.Tests.{eq-eqb, ne-eqb, eqb-true, ltb-true, ltb-false}
+use Rattle.bounded.specs.Tests.{if_then_else_}
+use Rattle.bounded.specs.Bounded.{anyBelow}
+use Rattle.bounded.proofs.Any.{any-cong}
+use Rattle.bounded.proofs.Cases.{cases}
+use Rattle.bounded.proofs.Reflection.{of-true}
+use Rattle.model.specs.declared.Description.{Description}
+use Rattle.model.specs.declared.Fault.{Fault}
+use Rattle.model.specs.declared.Fault.the-variants as Faults
+use Rattle.model.specs.declared.Answer.the-variants as Answers
+use Rattle.model.specs.Description.{between, rowCount, columnCount, foreignOf, refersOf}
+use Rattle.model.specs.Tables.{Cell, Row, State, Level, rowsOf, cell, nocell, norow, seek, at}
+use Rattle.model.specs.Buffers.{stateOf}
+use Rattle.model.specs.Conditions.{met}
+use Rattle.model.specs.Effect.{Rows, Effect, Above, Change, keep, only}
+use Rattle.model.specs.Delete.{referred, deleteTests, deleted}
+use Rattle.model.specs.Run.{left}
+use Rattle.model.proofs.Sound.{between-r}
+use Rattle.cells.specs.declared.layout.Part.{Part}
+use Rattle.cells.specs.Changed.{holding, valueAt, keyPlace, changeLevel}
+use Rattle.cells.proofs.Cells.{state-cell}
+use Rattle.asked.specs.Facts.{Marked, Counted, metAt}
+use Rattle.above.specs.declared.Plan.{Plan}
+use Rattle.above.specs.Facts.{markedAt, changeOf, aboveOf, carried, withRows, Working, Planned}
+use Rattle.above.proofs.Carried.{carried-own}
+use Rattle.theory.proofs.Seen.{seen-own, seen-at}
+use Rattle.change.specs.Facts.{Standing, Deletes, refuses, does, sight, metRows}
+use Rattle.marks.specs.Marking.{Chosen, rowMarked, emptyMarked, namesMarked, rowRefers, refersMarked, referredMarked}
+use Rattle.change.proofs.Answers.{first-fails, first-passes, first-none}
+use Rattle.change.proofs.Known.{sounds, relation-is, own-over}
+use Rattle.change.proofs.Sought.{place-key}
+use Rattle.marks.proofs.Carrying.{left-planned, own-marked, marked-met, mark-met, count-met, working}
+
+-- ---- the plan
+
+-- every cell of the subject's class becomes null
+pub record Nulling (P : Plan) : Type 0 where
+  pub gone : P .gone ≡ true
+  pub kinds : P .kinds ≡ replicate 9 2
+  pub values : P .values ≡ replicate 9 0
+  pub classes : P .classes ≡ replicate 9 255
+
+at-nine : (xs : List ℕ) (x k : ℕ) → xs ≡ replicate 9 x → k < 9 → getD xs k 0 ≡ x
+at-nine xs x k e h = ap (λ (ys : List ℕ). getD ys k 0) e ∙ getD-replicate 9 k x 0 h
+
+module _ (P : Plan) (N : Nulling P) where
+  change-is : (k : ℕ) → k < 9 → changeOf P k ≡ only nocell
+  unfolding changeOf
+  change-is k h = rw (at-nine (P .kinds) 2 k (N .kinds) h, at-nine (P .values) 0 k (N .values) h, at-nine (P .classes) 255 k (N .classes) h)
+
+  module _ (d : Description) (order : List (List Bool)) (r c : ℕ) (S : State) (W : Working d order r c S) where
+    abbrev B : Rows
+    B = S c .rows
+
+    abbrev E : Effect
+    E = emptyMarked d c r (P .marks) B
+
+    gone-is : (s v : ℕ) → aboveOf d c r P B .gone s v ≡ E .above .gone s v
+    unfolding aboveOf emptyMarked
+    gone-is s v = rw (N .gone)
+
+    -- a cell of a level's class stands in a column
+    column-few : (l i k : ℕ) → S l .rows r i k .class ≡ c → k < 9
+    column-few l i k e =
+        cases (between 1 (columnCount d r) k)
+        (λ t. omega (arith, of-true (between-r 1 (columnCount d r) k) t .1, relation-is d r (W .sound-is) (W .relation) .narrow))
+        (λ t.
+        let z : _≡_ {A = ℕ} 255 c = sym (ap (λ (x : Cell). x .class) (W .beyond r l i k t)) ∙ e in
+        absurd (omega (arith, z, W .level, sounds d r (W .sound-is) (W .relation) .few-levels)))
+
+    changed-is : (s l i k : ℕ) → S l .rows s i k .class ≡ c → aboveOf d c r P B .change s (S l .rows s i 1 .value) k ≡ E .above .change s (S l .rows s i 1 .value) k
+    unfolding aboveOf emptyMarked
+    changed-is s l i k e =
+        cases (eqb s r)
+        (λ t. rw (change-is k (column-few l i k (rw (eqb-true s r t) at e))))
+        (λ t. rw t)
+
+    module _ (M : Chosen (rowCount d r) (S c .rows r) (P .marks)) where
+      past : (i k : ℕ) → between 1 (columnCount d r) k ≡ false → nocell ≡ S c .rows r i k
+      past i k e = sym (W .beyond r c i k e)
+
+      pub delete-left : {S′ S″ : State} → S′ ≡ carried d c r P S
+          → S″ ≡ changeLevel c (withRows (rowCount d r) (columnCount d r) r (λ i. rowMarked (P .marks) (λ R. norow) i (S′ c .rows r i))) S′
+          → S″ ≡ left d c (some (emptyMarked d c r (P .marks) (S c .rows))) S
+      unfolding emptyMarked
+      delete-left p q =
+          q
+          ∙ ap (λ (T : State). changeLevel c (withRows (rowCount d r) (columnCount d r) r (λ i. rowMarked (P .marks) (λ R. norow) i (T c .rows r i))) T) p
+          ∙ ap (λ (D : Level). changeLevel c (withRows (rowCount d r) (columnCount d r) r (λ i. rowMarked (P .marks) (λ R. norow) i (D .rows r i))) (carried d c r P S)) (carried-own d c r P S)
+          ∙ left-planned d c r P S E (withRows (rowCount d r) (columnCount d r) r (λ i. rowMarked (P .marks) (λ R. norow) i (S c .rows r i))) gone-is changed-is
+          (own-marked (rowCount d r) (columnCount d r) r (P .marks) (λ R. norow) (S c) M past)
+
+      -- the plan is one
+      pub delete-planned : Planned d r c P (S c .rows r)
+      delete-planned =
+          record {
+            marks = M .long;
+            values = ap length (N .values);
+            classes = ap length (N .classes);
+            real = M .real;
+            own = λ k q. absurd (not-taken k q);
+            key = λ q. not-taken 1 q;
+          }
+        where
+          not-taken : (k : ℕ) → getD (P .kinds) k 0 ≡ 1 → ⊥
+          not-taken k q =
+              cases (ltb k 9)
+              (λ t. let y : _≡_ {A = ℕ} 2 1 = sym (at-nine (P .kinds) 2 k (N .kinds) (ltb-true k 9 t)) ∙ q in omega (arith, y))
+              (λ t. let g = ltb-false k 9 t in
+              let z : getD (P .kinds) k 0 ≡ 0 = List·getD-eq-default (P .kinds) 0 {n = k} (omega (arith, ap length (N .kinds))) in
+              let y : _≡_ {A = ℕ} 0 1 = sym z ∙ q in omega (arith, y))
+
+-- ---- the effect, by what meets the conditions
+
+pub delete-marked : (d : Description) (c r : ℕ) (conditions : List ℕ) (marks : List Bool) (B : Rows) → Marked (rowCount d r) (metAt d conditions (B r)) marks
+    → ((i : ℕ) → rowCount d r ≤ i → B r i 1 .value ≡ 0) → emptyMarked d c r marks B ≡ deleted d c r conditions B
+unfolding emptyMarked deleted
+delete-marked d c r conditions marks B M out =
+    ap₂ (λ (N : Rows) (A : Above). record { own = N; above = A })
+    (fun-ext (λ s. fun-ext (λ i. cases (eqb s r)
+    (λ t. rw (eqb-true s r t, eq-eqb r r refl, mark-met d conditions (rowCount d r) (B r) marks M out i))
+    (λ t. rw t))))
+    (ap₂ (λ (g : ℕ → ℕ → Bool) (f : ℕ → ℕ → ℕ → Change). record { gone = g; change = f })
+    (fun-ext (λ s. fun-ext (λ v. cases (eqb s r)
+    (λ t. rw (eqb-true s r t, eq-eqb r r refl, marked-met d conditions (rowCount d r) (B r) marks M v))
+    (λ t. rw t))))
+    (fun-ext (λ s. fun-ext (λ v. fun-ext (λ k. cases (eqb s r)
+    (λ t. rw (eqb-true s r t, eq-eqb r r refl, marked-met d conditions (rowCount d r) (B r) marks M v))
+    (λ t. rw t))))))
+
+-- ---- its test, and what is answered
+
+module _ {d : Description} {order : List (List Bool)} {r c : ℕ} {p : Part} {vs cs : List ℕ} (K : Standing d order r c p vs cs) (conditions : List ℕ) where
+  abbrev T : State
+  T = stateOf d (holding vs cs)
+
+  -- which rows are met, and whether one of them is referred to
+  module _ {marks : List Bool} (M : Marked (rowCount d r) (metAt d conditions (T c .rows r)) marks) where
+    own : sight d c vs cs c .rows ≡ T c .rows
+    own = seen-own d T c (own-over K)
+
+    key-met : (v : ℕ) → (ltb (keyPlace d vs r c v) (rowCount d r) && getD marks (keyPlace d vs r c v) false) ≡ met d conditions (at d (rowsOf T) r c v)
+    unfolding markedAt at
+    key-met v = rw (← (place-key d vs cs r c v)) (marked-met d conditions (rowCount d r) (T c .rows r) marks M v)
+
+    -- row i of relation s refers to a row that is met, where B are the rows at c
+    abbrev refersIn : Rows → ℕ → ℕ → Bool
+    refersIn B s i =
+        let v = B s i (foreignOf d s) .value in
+        eqb (refersOf d s) r && (not (eqb v 0) && met d conditions (seek (rowCount d r) (B r) v))
+
+    row-is : (s i : ℕ) → rowRefers d vs marks r c s i ≡ refersIn (T c .rows) s i
+    unfolding rowRefers namesMarked at
+    row-is s i = rw (state-cell d vs cs s c i (foreignOf d s), key-met (valueAt d vs s c i (foreignOf d s)))
+
+    named-is : referredMarked d vs marks r c ≡ referred d c r conditions (rowsOf (sight d c vs cs))
+    unfolding referredMarked refersMarked referred at
+    named-is =
+        any-cong (suc (d .relations)) (refersMarked d vs marks r c) (λ s. anyBelow (rowCount d s) (refersIn (T c .rows) s))
+        (λ s h. any-cong (rowCount d s) (rowRefers d vs marks r c s) (refersIn (T c .rows) s) (λ i g. row-is s i))
+        ∙ ap (λ (B : Rows). anyBelow (suc (d .relations)) (λ s. anyBelow (rowCount d s) (refersIn B s))) (sym own)
+
+    module _ {b : Bool} (z : b ≡ referredMarked d vs marks r c) where
+      pub delete-referred : b ≡ true → Deletes d c r conditions vs cs vs cs (Answers.Refused Faults.Referred)
+      unfolding deleteTests
+      delete-referred t = refuses Faults.Referred (first-fails _ _ (ap not (sym (z ∙ named-is) ∙ t))) refl refl refl
+
+      effect-is : emptyMarked d c r marks (T c .rows) ≡ deleted d c r conditions (sight d c vs cs c .rows)
+      effect-is =
+          delete-marked d c r conditions marks (T c .rows) M (λ i h. ap (λ (x : Cell). x .value) (working K .outside r c i 1 h))
+          ∙ ap (deleted d c r conditions) (sym own)
+
+      counted : {count : ℕ} → Counted (p .rows) marks count → count ≡ metRows d c r conditions (sight d c vs cs)
+      unfolding metRows
+      counted C = rw own (count-met d conditions (rowCount d r) (T c .rows r) marks M (rw (K .laid .rows) at C))
+
+      pub delete-done : b ≡ false → {count : ℕ} → Counted (p .rows) marks count → {us ds : List ℕ}
+          → stateOf d (holding us ds) ≡ left d c (some (emptyMarked d c r marks (T c .rows))) T → Deletes d c r conditions vs cs us ds (Answers.Done count)
+      unfolding deleteTests
+      delete-done t C m =
+          does (first-passes _ _ (ap not (sym (z ∙ named-is) ∙ t)) ∙ first-none) (ap Answers.Done (counted C))
+          (m ∙ ap (λ (E : Effect). left d c (some E) T) effect-is)

@@ -1,0 +1,166 @@
+-- What a plan leaves above is what an effect leaves there; what stands is enough for the plan; and which rows are marked.
+-- Assumes nothing.
+use Prim.Native.Nat.{ℕ, zero, suc, _+_, _≤_, _<_}
+use mathlib.Core.Path.{_≡_, refl, sym, ap, _∙_}
+use mathlib.Core.Bool.{Bool, true, false, not, _&&_, or-false}
+use mathlib.Core.Logic.{_≢_}
+use mathlib.Core.List.{List}
+use mathlib.Core.Option.{some}
+use native.Mathlib.Omega.{arith}
+use lib.Dec.{eqb, ltb}
+use lib.ListN.{getD}
+use borrow.Author.Tests.{eq-eqb, ne-eqb, le-ltb, ltb-true, ltb-false, eqb-true, eqb-false}
+use Rattle.bounded.specs.Tests.{if_then_else_}
+use Rattle.bounded.specs.Bounded.{anyBelow, countBelow}
+use Rattle.bounded.proofs.Cases.{cases, clash, or-true-right}
+use Rattle.bounded.proofs.Count.{count-cong}
+use Rattle.bounded.proofs.Reflection.{of-true}
+use Rattle.model.specs.declared.Description.{Description}
+use Rattle.model.specs.Description.{between, over, isColumn, rowCount, columnCount, foreignOf, refersOf}
+use Rattle.model.specs.Tables.{Row, Tables, norow, nocell, same, used, Level, State, rowsOf, place, seek, at}
+use Rattle.model.specs.Buffers.{inside, stateOf}
+use Rattle.model.specs.Legal.{Legal}
+use Rattle.model.specs.Conditions.{met}
+use Rattle.model.specs.Effect.{Effect, Above, changed, goneAt, reach}
+use Rattle.model.specs.Run.{left}
+use Rattle.model.proofs.Border.{state-framed}
+use Rattle.theory.proofs.Described.{sound-laws}
+use Rattle.theory.proofs.Judged.{judged}
+use Rattle.theory.proofs.Reach.{Side, at-c, over-c, off-c, side}
+use Rattle.cells.specs.declared.layout.Part.{Part}
+use Rattle.cells.specs.Changed.{holding, changeLevel}
+use Rattle.cells.proofs.Cells.{state-path}
+use Rattle.asked.specs.Facts.{Marked, Counted, metAt}
+use Rattle.above.specs.declared.Plan.{Plan}
+use Rattle.above.specs.Facts.{markedAt, aboveOf, carried, withRows, Working}
+use Rattle.above.proofs.Changes.{change-here, change-other}
+use Rattle.above.proofs.Carried.{carried-own, carried-aside, carried-cell}
+use Rattle.change.specs.Facts.{Standing}
+use Rattle.marks.specs.Marking.{Chosen, rowMarked}
+use Rattle.change.proofs.Answers.{left-own, left-over, left-other}
+
+-- ---- two effects above
+
+-- where the same is deleted and cells of class c change alike, a row is reached alike
+pub reach-as : (d : Description) (W : Tables) (c : ℕ) (E A : Above) → ((s v : ℕ) → E .gone s v ≡ A .gone s v) → (s l : ℕ) (R : Row) (k : ℕ)
+    → (R k .class ≡ c → E .change s (R 1 .value) k ≡ A .change s (R 1 .value) k) → reach d W c E s l R k ≡ reach d W c A s l R k
+unfolding reach goneAt
+reach-as d W c E A g s l R k h =
+    rw (g s (R 1 .value), g (refersOf d s) (R k .value))
+    (cases (eqb (R k .class) c) (λ t. rw (t, h (eqb-true _ _ t))) (λ t. rw t))
+
+-- the rows at c written over what a plan left above
+module _ (d : Description) (c r : ℕ) (P : Plan) (S : State) (E : Effect) (G : Level → Level)
+    (gone : (s v : ℕ) → aboveOf d c r P (S c .rows) .gone s v ≡ E .above .gone s v)
+    (change : (s l i k : ℕ) → S l .rows s i k .class ≡ c → aboveOf d c r P (S c .rows) .change s (S l .rows s i 1 .value) k ≡ E .above .change s (S l .rows s i 1 .value) k)
+    (own : (s i k : ℕ) → G (S c) .rows s i k ≡ E .own s i k) where
+  at-cell : (l s i k : ℕ) → Side d c l → changeLevel c G (carried d c r P S) l .rows s i k ≡ left d c (some E) S l .rows s i k
+  at-cell l s i k (at-c e) =
+      rw e
+      (ap (λ (B : Level). B .rows s i k) (change-here c G (carried d c r P S) ∙ ap G (carried-own d c r P S))
+      ∙ own s i k ∙ sym (left-own d c E S s i k))
+  at-cell l s i k (over-c n o) =
+      ap (λ (B : Level). B .rows s i k) (change-other c l G (carried d c r P S) (λ e. n (sym e)))
+      ∙ carried-cell d c r P S l n o s i k
+      ∙ reach-as d (at d (rowsOf S)) c (aboveOf d c r P (S c .rows)) (E .above) gone s l (S l .rows s i) k (change s l i k)
+      ∙ sym (left-over d c E S s l i k n o)
+  at-cell l s i k (off-c n o) =
+      let f = cases (over d l c) (λ t. absurd (o t)) (λ t. t) in
+      ap (λ (B : Level). B .rows s i k) (change-other c l G (carried d c r P S) (λ e. n (sym e)) ∙ carried-aside d c r P S l n f)
+      ∙ sym (left-other d c E S s l i k n f)
+
+  pub left-planned : changeLevel c G (carried d c r P S) ≡ left d c (some E) S
+  left-planned = state-path (λ l s i k. at-cell l s i k (side d c l))
+
+-- ---- the rows at c
+
+module _ (n m r : ℕ) (marks : List Bool) (F : Row → Row) (B : Level) (M : Chosen n (B .rows r) marks)
+    (past : (i k : ℕ) → between 1 m k ≡ false → F (B .rows r i) k ≡ B .rows r i k) where
+  abbrev after : ℕ → Row
+  after i = rowMarked marks F i (B .rows r i)
+
+  row-as : (i k : ℕ) → after i k ≡ (if getD marks i false then F (B .rows r i) else B .rows r i) k
+  unfolding rowMarked
+  row-as i k = refl
+
+  beyond : (i k : ℕ) → between 1 m k ≡ false → (b : Bool) → B .rows r i k ≡ (if b then F (B .rows r i) else B .rows r i) k
+  beyond i k e true = sym (past i k e)
+  beyond i k e false = refl
+
+  pub own-marked : (s i k : ℕ) → withRows n m r after B .rows s i k ≡ (if eqb s r && getD marks i false then F (B .rows s i) else B .rows s i) k
+  unfolding withRows
+  own-marked s i k =
+      cases (eqb r s)
+      (λ t. rw (← (eqb-true r s t), eq-eqb r r refl)
+      (cases (ltb i n)
+      (λ u. cases (between 1 m k) (λ w. rw (u, w) (row-as i k)) (λ w. rw (u, w) (beyond i k w (getD marks i false))))
+      (λ u. rw (u, M .rest i (ltb-false i n u)))))
+      (λ t. rw (t, ne-eqb s r (λ e. eqb-false r s t (sym e))))
+
+-- ---- which rows are marked
+
+module _ (d : Description) (conditions : List ℕ) where
+  -- a row that is not in use doesn't meet them
+  pub unmet : (R : Row) → R 1 .value ≡ 0 → met d conditions R ≡ false
+  unfolding met used
+  unmet R e = rw e
+
+  met-real : (R : Row) → met d conditions R ≡ true → R 1 .value ≢ 0
+  met-real R t e = clash t (unmet R e)
+
+  module _ (n : ℕ) (B : ℕ → Row) (marks : List Bool) (M : Marked n (metAt d conditions B) marks) where
+    marks-met : (i : ℕ) → i < n → getD marks i false ≡ met d conditions (B i)
+    unfolding metAt
+    marks-met i h = M .right i h
+
+    -- the row with a key
+    pub marked-met : (v : ℕ) → markedAt n marks B v ≡ met d conditions (seek n B v)
+    unfolding markedAt seek
+    marked-met v =
+        cases (ltb (place n B v) n)
+        (λ t. rw t (marks-met (place n B v) (ltb-true _ _ t)))
+        (λ t. rw t (sym (unmet norow refl)))
+
+    pub chosen : Chosen n B marks
+    chosen = record { long = M .long; real = λ i h t. met-real (B i) (sym (marks-met i h) ∙ t); rest = M .rest }
+
+    -- any row, where those past the last are empty
+    pub mark-met : ((i : ℕ) → n ≤ i → B i 1 .value ≡ 0) → (i : ℕ) → getD marks i false ≡ met d conditions (B i)
+    mark-met out i = cases (ltb i n) (λ t. marks-met i (ltb-true i n t)) (λ t. let h = ltb-false i n t in M .rest i h ∙ sym (unmet (B i) (out i h)))
+
+    pub count-met : {k : ℕ} → Counted n marks k → k ≡ countBelow n (λ i. met d conditions (B i))
+    count-met C = C .is ∙ count-cong n _ _ (λ i h. marks-met i h)
+
+-- some number below n is counted where there is one
+pub any-counted : (n : ℕ) (p : ℕ → Bool) → not (anyBelow n p) ≡ eqb (countBelow n p) 0
+unfolding anyBelow countBelow
+any-counted zero p = refl
+any-counted (suc n) p =
+    cases (p n)
+    (λ t. rw (t, ne-eqb (countBelow n p + 1) 0 (λ e. omega arith), or-true-right (anyBelow n p) true refl))
+    (λ t. rw (t, or-false (anyBelow n p)) (let z : countBelow n p ≡ countBelow n p + 0 = omega arith in any-counted n p ∙ ap (λ (k : ℕ). eqb k 0) z))
+
+-- ---- what stands is enough for a plan
+
+module _ {d : Description} {order : List (List Bool)} {r c : ℕ} {p : Part} {vs cs : List ℕ} (K : Standing d order r c p vs cs) where
+  abbrev T : State
+  T = stateOf d (holding vs cs)
+
+  legal-of : Legal d (rowsOf T)
+  legal-of = of-true (judged d (sound-laws d (K .sound-is)) T (state-framed d (holding vs cs))) (K .legal-is)
+
+  out : (s l i k : ℕ) → between 1 (columnCount d s) k ≡ false → inside d s l i k ≡ false
+  unfolding inside isColumn
+  out s l i k e = rw e
+
+  pub working : Working d order r c T
+  working =
+      record {
+        sound-is = K .sound-is;
+        order-is = K .order-is;
+        relation = K .relation;
+        level = K .level;
+        outside = λ s l i k h. legal-of .outside s l i k h;
+        beyond = λ s l i k e. state-framed d (holding vs cs) .outside s l i k (out s l i k e);
+        one-row = λ s l i j n e. legal-of .one-row s l i j n e;
+      }

@@ -1,0 +1,2 @@
+pub mod Setting
+pub mod Updated

@@ -1,0 +1,243 @@
+-- UPDATE: the plan that is made for it, its tests in their order, and the tables that it leaves.
+-- Assumes nothing.
+use Prim.Native.Nat.{ℕ, _+_, _≤_, _<_}
+use mathlib.Core.Path.{_≡_, refl, sym, ap, ap₂, _∙_, fun-ext}
+use mathlib.Core.Bool.{Bool, true, false, not, _&&_, _||_}
+use mathlib.Core.List.{List, [], _∷_}
+use mathlib.Core.Logic.{_≢_}
+use mathlib.Core.Option.{Option, none, some}
+use native.Mathlib.Omega.{arith}
+use lib.Dec.{eqb, ltb}
+use lib.ListN.{length, getD, replicate, getD-replicate, List·getD-eq-default}
+use borrow.Author.Tests.{eq-eqb, ne-eqb, eqb-true, ltb-true, ltb-false}
+use Rattle.bounded.specs.Tests.{if_then_else_}
+use Rattle.bounded.specs.Bounded.{firstBelow, allBelow, anyBelow, countBelow}
+use Rattle.bounded.proofs.All.{all-at}
+use Rattle.bounded.proofs.Any.{any-first}
+use Rattle.bounded.proofs.First.{first-holds}
+use Rattle.bounded.proofs.Cases.{cases, clash}
+use Rattle.bounded.proofs.Reflection.{is-true, is-false, of-true, of-false, bool-r, not-r, and-r, eqb-r}
+use Rattle.model.specs.declared.Description.{Description}
+use Rattle.model.specs.declared.Fault.{Fault}
+use Rattle.model.specs.declared.Fault.the-variants as Faults
+use Rattle.model.specs.declared.Answer.the-variants as Answers
+use Rattle.model.specs.Description.{between, distinctBelow, isColumn, rowCount, columnCount, inRange}
+use Rattle.model.specs.Tables.{Cell, Row, State, Level, rowsOf, cell, nocell, seek}
+use Rattle.model.specs.Buffers.{stateOf}
+use Rattle.model.specs.Listed.{whole, pairs, columnAt, secondAt, each, listed, lists, columnsOnce}
+use Rattle.model.specs.Conditions.{met}
+use Rattle.model.specs.Effect.{Rows, Effect, Above, Change, keep, take}
+use Rattle.model.specs.Insert.{listedNames}
+use Rattle.model.specs.Update.{updateFormed, anyMet, updateTests, setIn, takeIn, updated}
+use Rattle.model.specs.Run.{left}
+use Rattle.model.proofs.Sound.{between-r, column-r}
+use Rattle.cells.specs.declared.layout.Part.{Part}
+use Rattle.cells.specs.Changed.{holding, changeLevel}
+use Rattle.asked.specs.declared.pairs.Rule.the-variants as Rules
+use Rattle.asked.specs.Facts.{Marked, Counted, metAt, ruleOf}
+use Rattle.above.specs.declared.Plan.{Plan}
+use Rattle.above.specs.Facts.{markedAt, changeOf, aboveOf, carried, withRows, Planned}
+use Rattle.above.proofs.Carried.{carried-own}
+use Rattle.theory.proofs.Seen.{seen-own}
+use Rattle.change.specs.Facts.{Standing, Updates, refuses, does, sight, metRows, valueListed}
+use Rattle.marks.specs.Marking.{Listing, ByColumn, Chosen, kindListed, rowMarked, setMarked}
+use Rattle.change.proofs.Answers.{first-fails, first-passes, first-none, listed-seen}
+use Rattle.change.proofs.Known.{own-over}
+use Rattle.marks.proofs.Carrying.{left-planned, own-marked, marked-met, mark-met, count-met, any-counted, working}
+use Rattle.update.proofs.Setting.{listed-there, listed-nowhere}
+
+-- ---- what is listed for a column
+
+module _ (list : List ℕ) (k : ℕ) where
+  data Entry : Type 0 where
+    taken : (v : ℕ) → kindListed list k ≡ 1 → valueListed list k ≡ v → listed list k ≡ some v → Entry
+    kept : kindListed list k ≡ 0 → listed list k ≡ none → Entry
+
+  abbrev first : ℕ
+  first = firstBelow (pairs list) (λ j. eqb (columnAt list j) k)
+
+  kind-is : kindListed list k ≡ (if ltb first (pairs list) then 1 else 0)
+  unfolding kindListed lists
+  kind-is = rw (any-first (pairs list) (λ j. eqb (columnAt list j) k))
+
+  entry : Entry
+  unfolding valueListed
+  entry =
+      cases (ltb first (pairs list))
+      (λ t. taken (secondAt list first) (rw (kind-is, t)) (rw (valueListed, listed-there list k t)) (listed-there list k t))
+      (λ t. kept (rw (kind-is, t)) (listed-nowhere list k t))
+
+-- ---- the plan
+
+module _ (c : ℕ) (list : List ℕ) (P : Plan) (kinds : ByColumn (kindListed list) (P .kinds)) (values : ByColumn (valueListed list) (P .values)) where
+  change-is : (k : ℕ) → changeOf P k ≡ takeIn list k
+  unfolding changeOf takeIn
+  change-is k = go (entry list k)
+    where
+      go : Entry list k → changeOf P k ≡ takeIn list k
+      go (taken v e f g) = rw (kinds .right k, e, values .right k, f, takeIn, g)
+      go (kept e g) = rw (kinds .right k, e, takeIn, g)
+
+  module _ (d : Description) (r : ℕ) (S : State) (nothing-gone : P .gone ≡ false) where
+    abbrev B : Rows
+    B = S c .rows
+
+    abbrev E : Effect
+    E = setMarked d c r list (P .marks) B
+
+    gone-is : (s v : ℕ) → aboveOf d c r P B .gone s v ≡ E .above .gone s v
+    unfolding aboveOf setMarked
+    gone-is s v = rw nothing-gone (cases (eqb s r) (λ t. rw t) (λ t. rw t))
+
+    changed-is : (s v k : ℕ) → aboveOf d c r P B .change s v k ≡ E .above .change s v k
+    unfolding aboveOf setMarked
+    changed-is s v k = rw (change-is k)
+
+    module _ (m : ℕ) (L : Listing m list) (M : Chosen (rowCount d r) (S c .rows r) (P .marks)) where
+      -- what is no column is not listed
+      past : (i k : ℕ) → between 1 m k ≡ false → setIn c list (S c .rows r i) k ≡ S c .rows r i k
+      unfolding setIn
+      past i k e = go (cases (ltb (first list k) (pairs list)) (λ t. absurd (there (ltb-true _ _ t))) (λ t. listed-nowhere list k t))
+        where
+          there : first list k < pairs list → ⊥
+          there h =
+              let q = eqb-true (columnAt list (first list k)) k (first-holds (pairs list) (λ j. eqb (columnAt list j) k) h) in
+              of-false (between-r 1 m k) e (omega (arith, q, L .least (first list k) h), omega (arith, q, L .most (first list k) h))
+
+          go : listed list k ≡ none → setIn c list (S c .rows r i) k ≡ S c .rows r i k
+          go n = rw (setIn, n)
+
+      pub update-left : {S′ S″ : State} → S′ ≡ carried d c r P S → S″ ≡ changeLevel c (withRows (rowCount d r) m r (λ i. rowMarked (P .marks) (setIn c list) i (S′ c .rows r i))) S′
+          → S″ ≡ left d c (some (setMarked d c r list (P .marks) (S c .rows))) S
+      unfolding setMarked
+      update-left p q =
+          q
+          ∙ ap (λ (T : State). changeLevel c (withRows (rowCount d r) m r (λ i. rowMarked (P .marks) (setIn c list) i (T c .rows r i))) T) p
+          ∙ ap (λ (D : Level). changeLevel c (withRows (rowCount d r) m r (λ i. rowMarked (P .marks) (setIn c list) i (D .rows r i))) (carried d c r P S)) (carried-own d c r P S)
+          ∙ left-planned d c r P S E (withRows (rowCount d r) m r (λ i. rowMarked (P .marks) (setIn c list) i (S c .rows r i))) gone-is
+          (λ s l i k h. changed-is s (S l .rows s i 1 .value) k)
+          (own-marked (rowCount d r) m r (P .marks) (setIn c list) (S c) M past)
+
+-- the plan is one
+pub update-planned : (d : Description) (r c : ℕ) (list : List ℕ) (P : Plan) (B : ℕ → Row) → ByColumn (kindListed list) (P .kinds)
+    → ByColumn (valueListed list) (P .values) → P .classes ≡ replicate 9 c → Chosen (rowCount d r) B (P .marks) → lists list 1 ≡ false → Planned d r c P B
+unfolding kindListed
+update-planned d r c list P B kinds values e M n =
+    record {
+      marks = M .long;
+      values = values .long;
+      classes = ap length e;
+      real = M .real;
+      own = λ k q. ap (λ (xs : List ℕ). getD xs k 0) e ∙ getD-replicate 9 k c 0 (small k q);
+      key = λ q. let z : _≡_ {A = ℕ} 0 1 = sym (kinds .right 1 ∙ rw n) ∙ q in omega (arith, z);
+    }
+  where
+    small : (k : ℕ) → getD (P .kinds) k 0 ≡ 1 → k < 9
+    small k q =
+        cases (ltb k 9) (λ t. ltb-true k 9 t)
+        (λ t. let g = ltb-false k 9 t in
+        let z : getD (P .kinds) k 0 ≡ 0 = List·getD-eq-default (P .kinds) 0 {n = k} (omega (arith, kinds .long)) in
+        let y : _≡_ {A = ℕ} 0 1 = sym z ∙ q in absurd (omega (arith, y)))
+
+-- ---- the effect, by what meets the conditions
+
+pub update-marked : (d : Description) (c r : ℕ) (list conditions : List ℕ) (marks : List Bool) (B : Rows) → Marked (rowCount d r) (metAt d conditions (B r)) marks
+    → ((i : ℕ) → rowCount d r ≤ i → B r i 1 .value ≡ 0) → setMarked d c r list marks B ≡ updated d c r list conditions B
+unfolding setMarked updated
+update-marked d c r list conditions marks B M out =
+    ap₂ (λ (N : Rows) (A : Above). record { own = N; above = A })
+    (fun-ext (λ s. fun-ext (λ i. cases (eqb s r)
+    (λ t. rw (eqb-true s r t, eq-eqb r r refl, mark-met d conditions (rowCount d r) (B r) marks M out i))
+    (λ t. rw t))))
+    (ap (λ (f : ℕ → ℕ → ℕ → Change). record { gone = λ s v. false; change = f })
+    (fun-ext (λ s. fun-ext (λ v. fun-ext (λ k. cases (eqb s r)
+    (λ t. rw (eqb-true s r t, eq-eqb r r refl, marked-met d conditions (rowCount d r) (B r) marks M v))
+    (λ t. rw t))))))
+
+-- ---- what is well formed
+
+module _ (d : Description) (r : ℕ) (list : List ℕ) (h : updateFormed d r list ≡ true) where
+  says : (whole 2 list ≡ true) × ((each (λ k v. isColumn d r k) list ≡ true) × ((columnsOnce list ≡ true) × ((lists list 1 ≡ true → ⊥) × (ltb 0 (length list) ≡ true))))
+  unfolding updateFormed
+  says =
+      of-true
+      (and-r (bool-r (whole 2 list)) (and-r (bool-r (each (λ k v. isColumn d r k) list)) (and-r (bool-r (columnsOnce list)) (and-r (not-r (bool-r (lists list 1))) (bool-r (ltb 0 (length list)))))))
+      h
+
+  pub update-columns : each (λ k v. isColumn d r k) list ≡ true
+  update-columns = says .1 .0
+
+  pub update-keyless : lists list 1 ≡ false
+  update-keyless = is-false (bool-r (lists list 1)) (says .1 .1 .1 .0)
+
+  column-at : (i : ℕ) → i < pairs list → (0 < columnAt list i) × (columnAt list i ≤ columnCount d r)
+  unfolding each
+  column-at i g = of-true (column-r d r (columnAt list i)) (all-at (pairs list) (λ j. isColumn d r (columnAt list j)) update-columns i g)
+
+  twice : (i j : ℕ) → i < pairs list → j < i → columnAt list i ≢ columnAt list j
+  unfolding columnsOnce distinctBelow
+  twice i j g l =
+      of-true (not-r (eqb-r (columnAt list i) (columnAt list j)))
+      (all-at i (λ k. not (eqb (columnAt list i) (columnAt list k))) (all-at (pairs list) (λ n. allBelow n (λ k. not (eqb (columnAt list n) (columnAt list k)))) (says .1 .1 .0) i g) j l)
+
+  pub update-listing : Listing (columnCount d r) list
+  update-listing = record { least = λ i g. column-at i g .0; most = λ i g. column-at i g .1; once = twice }
+
+-- a list of a relation's columns is one of the first eight
+pub listing-few : (m : ℕ) (list : List ℕ) → m ≤ 8 → Listing m list → Listing 8 list
+listing-few m list h L = record { least = L .least; most = λ i g. omega (arith, L .most i g); once = L .once }
+
+-- ---- its tests in their order, and what is answered
+
+module _ {d : Description} {order : List (List Bool)} {r c : ℕ} {p : Part} {vs cs : List ℕ} (K : Standing d order r c p vs cs) (list conditions : List ℕ) where
+  abbrev T : State
+  T = stateOf d (holding vs cs)
+
+  -- what was asked of each listed column
+  module _ {a : Bool} (e : a ≡ each (ruleOf d r (Rules.Takes c)) list) where
+    each-is : each (λ k v. inRange d r k c) list ≡ a
+    unfolding ruleOf
+    each-is = sym e
+
+    pub update-range : a ≡ false → Updates d c r list conditions vs cs vs cs (Answers.Refused Faults.Range)
+    unfolding updateTests
+    update-range t = refuses Faults.Range (first-fails _ _ (each-is ∙ t)) refl refl refl
+
+    -- which rows are met, and whether the reference has its row
+    module _ (t : a ≡ true) {marks : List Bool} (M : Marked (rowCount d r) (metAt d conditions (T c .rows r)) marks) {count : ℕ} (C : Counted (p .rows) marks count)
+        {b : Bool} (z : (classes : List ℕ) → b ≡ (eqb count 0 || listedNames d c r list (rowsOf (stateOf d (holding vs classes))))) where
+      own : sight d c vs cs c .rows ≡ T c .rows
+      own = seen-own d T c (own-over K)
+
+      count-is : count ≡ countBelow (rowCount d r) (λ i. met d conditions (T c .rows r i))
+      count-is = count-met d conditions (rowCount d r) (T c .rows r) marks M (rw (K .laid .rows) at C)
+
+      counted : count ≡ metRows d c r conditions (sight d c vs cs)
+      unfolding metRows
+      counted = rw own count-is
+
+      none-met : not (anyMet d c r conditions (rowsOf (sight d c vs cs))) ≡ eqb count 0
+      unfolding anyMet
+      none-met =
+          ap (λ (B : Rows). not (anyBelow (rowCount d r) (λ i. met d conditions (B r i)))) own
+          ∙ any-counted (rowCount d r) (λ i. met d conditions (T c .rows r i))
+          ∙ ap (λ (n : ℕ). eqb n 0) (sym count-is)
+
+      named-is : (not (anyMet d c r conditions (rowsOf (sight d c vs cs))) || listedNames d c r list (rowsOf (sight d c vs cs))) ≡ b
+      named-is = ap₂ (λ (x y : Bool). x || y) none-met (listed-seen d c T (own-over K) r list) ∙ sym (z cs)
+
+      pub update-reference : b ≡ false → Updates d c r list conditions vs cs vs cs (Answers.Refused Faults.Reference)
+      unfolding updateTests
+      update-reference w = refuses Faults.Reference (first-passes _ _ (each-is ∙ t) ∙ first-fails _ _ (named-is ∙ w)) refl refl refl
+
+      effect-is : setMarked d c r list marks (T c .rows) ≡ updated d c r list conditions (sight d c vs cs c .rows)
+      effect-is =
+          update-marked d c r list conditions marks (T c .rows) M (λ i h. ap (λ (x : Cell). x .value) (working K .outside r c i 1 h))
+          ∙ ap (updated d c r list conditions) (sym own)
+
+      pub update-done : b ≡ true → {us ds : List ℕ} → stateOf d (holding us ds) ≡ left d c (some (setMarked d c r list marks (T c .rows))) T
+          → Updates d c r list conditions vs cs us ds (Answers.Done count)
+      unfolding updateTests
+      update-done w m =
+          does (first-passes _ _ (each-is ∙ t) ∙ first-passes _ _ (named-is ∙ w) ∙ first-none) (ap Answers.Done counted)
+          (m ∙ ap (λ (E : Effect). left d c (some E) T) effect-is)

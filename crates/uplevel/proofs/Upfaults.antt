@@ -1,0 +1,255 @@
+-- UPLEVEL's tests: each is what the code asks, and the first that fails is answered.
+-- Assumes nothing.
+use Prim.Native.Nat.{ℕ, _≤_, _<_}
+use mathlib.Core.Path.{_≡_, refl, sym, ap, _∙_}
+use mathlib.Core.Bool.{Bool, true, false, not, _&&_, _||_}
+use mathlib.Core.List.{List, [], _∷_}
+use mathlib.Core.Logic.{_≢_}
+use mathlib.Core.Option.{Option, none, some}
+use native.Mathlib.Omega.{arith}
+use lib.Dec.{eqb, ltb, leb}
+use borrow.Author.Tests.{eq-eqb, ne-eqb, lt-ltb, le-ltb, ltb-true, ltb-false, le-leb, lt-leb}
+use Rattle.bounded.specs.Bounded.{firstBelow, countBelow}
+use Rattle.bounded.proofs.Cases.{cases, and-left}
+use Rattle.model.specs.declared.Description.{Description}
+use Rattle.model.specs.declared.Fault.{Fault}
+use Rattle.model.specs.declared.Fault.the-variants as Faults
+use Rattle.model.specs.declared.Answer.{Answer}
+use Rattle.model.specs.declared.Answer.the-variants as Answers
+use Rattle.model.specs.Description.{over, inRange, rowCount}
+use Rattle.model.specs.Tables.{Cell, State, Tables, cell, same, used, rowsOf, seen, at}
+use Rattle.model.specs.Buffers.{stateOf}
+use Rattle.model.specs.Listed.{each}
+use Rattle.model.specs.Effect.{Rows, Effect, lowestEmpty, hasRoom}
+use Rattle.model.specs.Uplevel.{based, entityOf, borrowedNames, uplevelTests, uplevelled}
+use Rattle.model.specs.Run.{firstFault}
+use Rattle.cells.specs.Changed.{holding, keyPlace, entityPlace}
+use Rattle.asked.specs.declared.pairs.Rule.the-variants as Rules
+use Rattle.asked.specs.Facts.{ruleOf}
+use Rattle.theory.proofs.Seen.{seen-at, seen-own}
+use Rattle.change.specs.Facts.{Answered, refuses, does, sight, Uplevels}
+use Rattle.uplevel.specs.Raising.{laterTests, severalBased, entityTests, answerOf, spotOf}
+use Rattle.change.proofs.Sought.{used-is}
+use Rattle.change.proofs.Answers.{first-fails, first-passes}
+use Rattle.uplevel.proofs.Entities.{entity-is}
+
+-- ---- the entity
+
+module _ (d : Description) (c r key class : ℕ) (T : Tables) where
+  key-kept : entityOf d c r key class T ≡ cell key (entityOf d c r key class T .class)
+  unfolding entityOf
+  key-kept = refl
+
+  pub own-given : class ≢ 255 → class ≡ entityOf d c r key class T .class
+  unfolding entityOf
+  own-given n = rw (ne-eqb class 255 n)
+
+  module _ (e : class ≡ 255) where
+    pub own-base : {b : ℕ} → b ≡ firstBelow (d .levels) (based d c r key T) → b ≡ entityOf d c r key class T .class
+    unfolding entityOf
+    own-base p = rw (eq-eqb class 255 e) p
+
+    more : (n : ℕ) → ltb 1 n ≡ not (leb n 1)
+    more n = cases (ltb 1 n) (λ t. rw (t, lt-leb n 1 (ltb-true 1 n t))) (λ t. rw (t, le-leb n 1 (ltb-false 1 n t)))
+
+    pub several-count : {n : ℕ} → n ≡ countBelow (d .levels) (based d c r key T) → ltb 1 n ≡ severalBased d c r key class T
+    unfolding severalBased
+    several-count {n} p = rw (eq-eqb class 255 e, ← p) (more n)
+
+  pub several-given : class ≢ 255 → false ≡ severalBased d c r key class T
+  unfolding severalBased
+  several-given n = rw (ne-eqb class 255 n)
+
+-- ---- the place of the new row
+
+module _ (d : Description) (r i : ℕ) (B : Rows) where
+  pub spot-there : i < rowCount d r → i ≡ spotOf d r i B
+  unfolding spotOf
+  spot-there h = rw (lt-ltb i (rowCount d r) h)
+
+  pub spot-lowest : rowCount d r ≤ i → lowestEmpty d B r ≡ spotOf d r i B
+  unfolding spotOf
+  spot-lowest h = rw (le-ltb i (rowCount d r) h)
+
+  spot-room : ltb (spotOf d r i B) (rowCount d r) ≡ (ltb i (rowCount d r) || hasRoom d B r)
+  unfolding spotOf hasRoom
+  spot-room = cases (ltb i (rowCount d r)) (λ t. rw (t, t)) (λ t. rw t)
+
+-- ---- the tests after the entity is known
+
+turned : (k h : Bool) → (not k || h) ≡ not (not h && k)
+turned true true = refl
+turned true false = refl
+turned false true = refl
+turned false false = refl
+
+no-fault : {P : Type 0} {f : Fault} → some f ≡ none → P
+no-fault e = let z : _≡_ {A = ℕ} 0 1 = cc in absurd (omega arith)
+
+last-passes : (t u v w : Bool) → firstFault ((t, Faults.Taken) ∷ (u, Faults.KeyClass) ∷ (v, Faults.Reference) ∷ (w, Faults.Full) ∷ []) ≡ none → w ≡ true
+unfolding firstFault
+last-passes t u v true e = refl
+last-passes false u v false e = no-fault e
+last-passes true false v false e = no-fault e
+last-passes true true false false e = no-fault e
+last-passes true true true false e = no-fault e
+
+module _ (d : Description) (vs cs : List ℕ) (c r key class : ℕ) (list : List ℕ) (o : over d c c ≡ true) (nz : key ≢ 0) {here : ℕ} (e : here ≡ entityPlace d vs cs r c key class) where
+  abbrev S : State
+  S = stateOf d (holding vs cs)
+
+  abbrev tests : List (Bool × Fault)
+  tests = laterTests d c r (cell key class) list (seen d c S)
+
+  taken-test : (not (used (at d (rowsOf (seen d c S)) r c key)) || same (at d (rowsOf (seen d c S)) r c key 1) (cell key class)) ≡ not (not (ltb here (rowCount d r)) && ltb (keyPlace d vs r c key) (rowCount d r))
+  taken-test =
+      rw (seen-at d S c r c key o, ← (used-is d vs cs r c key nz refl), ← (entity-is d vs cs r c key class nz e))
+      (turned (ltb (keyPlace d vs r c key) (rowCount d r)) (ltb here (rowCount d r)))
+
+  full-test : (same (at d (rowsOf (seen d c S)) r c key 1) (cell key class) || hasRoom d (seen d c S c .rows) r) ≡ ltb (spotOf d r here (S c .rows)) (rowCount d r)
+  full-test = rw (seen-at d S c r c key o, seen-own d S c o, ← (entity-is d vs cs r c key class nz e)) (sym (spot-room d r here (S c .rows)))
+
+  module _ {a : Bool} (x : a ≡ (not (ltb here (rowCount d r)) && ltb (keyPlace d vs r c key) (rowCount d r))) where
+    pub taken-answer : a ≡ true → Answers.Refused Faults.Taken ≡ answerOf (firstFault tests)
+    unfolding laterTests answerOf
+    taken-answer t = sym (ap answerOf (first-fails Faults.Taken _ (taken-test ∙ rw (← x, t))))
+
+    module _ (t : a ≡ false) {b : Bool} (y : b ≡ each (ruleOf d r (Rules.Above class)) list) where
+      past-taken : firstFault tests ≡ firstFault ((b, Faults.KeyClass) ∷ (borrowedNames d c r (cell key class) list (rowsOf (seen d c S)), Faults.Reference) ∷ (ltb (spotOf d r here (S c .rows)) (rowCount d r), Faults.Full) ∷ [])
+      unfolding laterTests ruleOf
+      past-taken = first-passes Faults.Taken _ (taken-test ∙ rw (← x, t)) ∙ rw (y, full-test)
+
+      pub class-answer : b ≡ false → Answers.Refused Faults.KeyClass ≡ answerOf (firstFault tests)
+      unfolding answerOf
+      class-answer u = sym (ap answerOf (past-taken ∙ first-fails Faults.KeyClass _ u))
+
+      module _ (u : b ≡ true) {q : Bool} (z : q ≡ borrowedNames d c r (cell key class) list (rowsOf (seen d c S))) where
+        pub reference-answer : q ≡ false → Answers.Refused Faults.Reference ≡ answerOf (firstFault tests)
+        unfolding answerOf
+        reference-answer v = sym (ap answerOf (past-taken ∙ first-passes Faults.KeyClass _ u ∙ first-fails Faults.Reference _ (sym z ∙ v)))
+
+        module _ (v : q ≡ true) {i : ℕ} (w : i ≡ spotOf d r here (S c .rows)) where
+          past-names : firstFault tests ≡ firstFault ((ltb i (rowCount d r), Faults.Full) ∷ [])
+          past-names = past-taken ∙ first-passes Faults.KeyClass _ u ∙ first-passes Faults.Reference _ (sym z ∙ v) ∙ rw w
+
+          pub full-answer : rowCount d r ≤ i → Answers.Refused Faults.Full ≡ answerOf (firstFault tests)
+          unfolding answerOf
+          full-answer h = sym (ap answerOf (past-names ∙ first-fails Faults.Full _ (le-ltb i (rowCount d r) h)))
+
+          pub done-answer : i < rowCount d r → Answers.Done 1 ≡ answerOf (firstFault tests)
+          unfolding answerOf firstFault
+          done-answer h = sym (ap answerOf (past-names ∙ first-passes Faults.Full [] (lt-ltb i (rowCount d r) h)))
+
+  -- where no test fails there is a place
+  pub room : firstFault tests ≡ none → spotOf d r here (S c .rows) < rowCount d r
+  unfolding laterTests
+  room n = ltb-true _ _ (sym full-test ∙ last-passes _ _ _ _ n)
+
+-- ---- what is answered
+
+module _ {o : Option Fault} {a : Answer} (e : a ≡ answerOf o) where
+  pub refused-by : {f : Fault} → a ≡ Answers.Refused f → o ≡ some f
+  unfolding answerOf
+  refused-by {f} p = go o (sym e ∙ p)
+    where
+      go : (o : Option Fault) → answerOf o ≡ Answers.Refused f → o ≡ some f
+      go none q = cc
+      go (some g) q = cc
+
+  pub done-by : {n : ℕ} → a ≡ Answers.Done n → (o ≡ none) × (n ≡ 1)
+  unfolding answerOf
+  done-by {n} p = go o (sym e ∙ p)
+    where
+      go : (o : Option Fault) → answerOf o ≡ Answers.Done n → (o ≡ none) × (n ≡ 1)
+      go none q = (refl, cc)
+      go (some g) q = (cc, cc)
+
+-- one test before others
+module _ {d : Description} {c n : ℕ} {E : Effect} {vs cs : List ℕ} (f : Fault) (ts : List (Bool × Fault)) {b : Bool} where
+  pub test-fails : b ≡ false → Answered d c ((b, f) ∷ ts) n E vs cs vs cs (Answers.Refused f)
+  test-fails e = refuses f (first-fails f ts e) refl refl refl
+
+  pub test-passes : {vs′ cs′ : List ℕ} {a : Answer} → b ≡ true → Answered d c ts n E vs cs vs′ cs′ a → Answered d c ((b, f) ∷ ts) n E vs cs vs′ cs′ a
+  test-passes e (refuses g p q x y) = refuses g (first-passes f ts e ∙ p) q x y
+  test-passes e (does p q x) = does (first-passes f ts e ∙ p) q x
+
+-- ---- the tests of the entity
+
+-- a base row stands at a level that the subject sees
+pub based-over : (d : Description) (c r key own : ℕ) (T : Tables) {b : Bool} → b ≡ based d c r key T own → b ≡ true → over d c own ≡ true
+unfolding based
+based-over d c r key own T x t = and-left _ _ (sym x ∙ t)
+
+module _ (d : Description) (c r key class own : ℕ) (list vs cs : List ℕ) where
+  abbrev seeing : State
+  seeing = sight d c vs cs
+
+  abbrev Admitted : List ℕ → List ℕ → Answer → Type 0
+  Admitted = Answered d c (entityTests d c r class (cell key own) list seeing) 1 (uplevelled d c r (cell key own) list (rowsOf seeing)) vs cs
+
+  module _ {b : Bool} (x : b ≡ based d c r key (rowsOf seeing) own) where
+    pub absent-answer : b ≡ false → Admitted vs cs (Answers.Refused Faults.Absent)
+    unfolding entityTests
+    absent-answer t = test-fails Faults.Absent _ (sym x ∙ t)
+
+    module _ (t : b ≡ true) {s : Bool} (y : s ≡ severalBased d c r key class (rowsOf seeing)) where
+      pub several-answer : s ≡ true → Admitted vs cs (Answers.Refused Faults.Several)
+      unfolding entityTests
+      several-answer u = test-passes Faults.Absent _ (sym x ∙ t) (test-fails Faults.Several _ (ap not (sym y ∙ u)))
+
+      pub later-answer : s ≡ false → {vs′ cs′ : List ℕ} {a : Answer} → Answered d c (laterTests d c r (cell key own) list seeing) 1 (uplevelled d c r (cell key own) list (rowsOf seeing)) vs cs vs′ cs′ a
+          → Admitted vs′ cs′ a
+      unfolding entityTests
+      later-answer u A = test-passes Faults.Absent _ (sym x ∙ t) (test-passes Faults.Several _ (ap not (sym y ∙ u)) A)
+
+-- ---- all tests
+
+either : (a b : Bool) → (not a || b) ≡ not (a && not b)
+either true true = refl
+either true false = refl
+either false b = refl
+
+-- the subject sees every FROM level
+pub from-sees : (d : Description) (c r : ℕ) (list : List ℕ) {b : Bool} → b ≡ each (ruleOf d r (Rules.Below c)) list → b ≡ true → each (λ k a. over d c a) list ≡ true
+unfolding ruleOf
+from-sees d c r list y u = sym y ∙ u
+
+tests-are : (d : Description) (c r key class : ℕ) (list : List ℕ) (S : State)
+    → uplevelTests d c r key class list S ≡ (((eqb class 255 || over d c class) && each (λ k a. over d c a) list, Faults.Unseen)
+    ∷ (each (λ k a. inRange d r k a) list, Faults.Range) ∷ entityTests d c r class (entityOf d c r key class (rowsOf S)) list S)
+unfolding uplevelTests entityTests laterTests severalBased entityOf
+tests-are d c r key class list S = rw (either (eqb class 255) (leb (countBelow (d .levels) (based d c r key (rowsOf S))) 1))
+
+module _ (d : Description) (c r key class : ℕ) (list vs cs : List ℕ) {g : Bool} (x : g ≡ (eqb class 255 || over d c class)) where
+  abbrev T : State
+  T = sight d c vs cs
+
+  pub class-unseen : g ≡ false → Uplevels d c r key class list vs cs vs cs (Answers.Refused Faults.Unseen)
+  class-unseen t = rw (tests-are d c r key class list T) (test-fails Faults.Unseen _ (rw (← x, t)))
+
+  module _ (t : g ≡ true) {b : Bool} (y : b ≡ each (ruleOf d r (Rules.Below c)) list) where
+    seen-is : ((eqb class 255 || over d c class) && each (λ k a. over d c a) list) ≡ b
+    unfolding ruleOf
+    seen-is = rw (← x, t) (sym y)
+
+    pub from-unseen : b ≡ false → Uplevels d c r key class list vs cs vs cs (Answers.Refused Faults.Unseen)
+    from-unseen u = rw (tests-are d c r key class list T) (test-fails Faults.Unseen _ (seen-is ∙ u))
+
+    module _ (u : b ≡ true) {h : Bool} (z : h ≡ each (ruleOf d r Rules.Lends) list) where
+      range-is : each (λ k a. inRange d r k a) list ≡ h
+      unfolding ruleOf
+      range-is = sym z
+
+      pub range-answer : h ≡ false → Uplevels d c r key class list vs cs vs cs (Answers.Refused Faults.Range)
+      range-answer v = rw (tests-are d c r key class list T) (test-passes Faults.Unseen _ (seen-is ∙ u) (test-fails Faults.Range _ (range-is ∙ v)))
+
+      entity-answer : {vs′ cs′ : List ℕ} {a : Answer} → h ≡ true → (e : Cell) → entityOf d c r key class (rowsOf T) ≡ e
+          → Answered d c (entityTests d c r class e list T) 1 (uplevelled d c r e list (rowsOf T)) vs cs vs′ cs′ a → Uplevels d c r key class list vs cs vs′ cs′ a
+      entity-answer v e q A = rw (tests-are d c r key class list T, q) (test-passes Faults.Unseen _ (seen-is ∙ u) (test-passes Faults.Range _ (range-is ∙ v) A))
+
+      pub admitted-answer : h ≡ true → {own : ℕ} → own ≡ entityOf d c r key class (rowsOf T) .class → {vs′ cs′ : List ℕ} {a : Answer}
+          → Answered d c (entityTests d c r class (cell key own) list T) 1 (uplevelled d c r (cell key own) list (rowsOf T)) vs cs vs′ cs′ a → Uplevels d c r key class list vs cs vs′ cs′ a
+      admitted-answer v {own} q A = entity-answer v (cell key own) (keyed ∙ ap (cell key) (sym q)) A
+        where
+          keyed : entityOf d c r key class (rowsOf T) ≡ cell key (entityOf d c r key class (rowsOf T) .class)
+          keyed = key-kept d c r key class (rowsOf T)
