@@ -1,0 +1,4 @@
+pub mod Outcomes
+pub mod Served
+pub mod Shapes
+pub mod Verdicts
