@@ -26,7 +26,7 @@ use Rattle.theory.proofs.Fine.{no-level}
 use Rattle.theory.proofs.Seek.{Sought, there, nowhere, sought}
 use Rattle.theory.proofs.Reach.{carry-own, carry-above, carry-aside, Side, at-c, over-c, off-c, side}
 use Rattle.above.specs.declared.Plan.{Plan}
-use Rattle.above.specs.Facts.{markedAt, aboveOf, carried, touchedBy, turned, rowAfter, withRows, goneBy, rowUnnamed, withReferrers, givenBy, Working, Planned}
+use Rattle.above.specs.Facts.{markedAt, aboveOf, carried, touchedBy, turnedBy, turned, rowAfter, withRows, goneBy, rowUnnamed, withReferrers, givenBy, Working, Planned}
 use Rattle.above.proofs.Referred.{unlike, done-named}
 use Rattle.above.proofs.Taken.{foreign-small}
 use Rattle.above.proofs.Changes.{level-path}
@@ -186,8 +186,8 @@ module _ (d : Description) (order : List (List Bool)) (r c : ℕ) (P : Plan) (S 
         unfolding same
         same-own = rw (there-own, known .key, eq-eqb v v refl)
 
-        reach-touched : own 1 .class ≡ R 1 .class → reach d T c E r l R k ≡ (if P .gone && eqb (R 1 .class) c then nocell else turned (givenBy d r P c S l) c k (R k))
-        unfolding reach aboveOf turned
+        reach-touched : own 1 .class ≡ R 1 .class → reach d T c E r l R k ≡ (if P .gone && eqb (R 1 .class) c then nocell else turned (givenBy d r P c S l .kinds) (givenBy d r P c S l .values) (givenBy d r P c S l .classes) c k (R k))
+        unfolding reach aboveOf turned turnedBy
         reach-touched q =
             rw (gone-marked, both (P .gone) (own 1 .class) (R 1 .class) c q, same-own, eq-eqb (R 1 .class) (own 1 .class) (sym q), eq-eqb r r refl, m, gone-self (R k .value))
             (cases (P .gone && eqb (R 1 .class) c)
@@ -206,10 +206,10 @@ module _ (d : Description) (order : List (List Bool)) (r c : ℕ) (P : Plan) (S 
             (λ u. rw u (cases (eqb k (foreignOf d r)) (λ w. rw w) (λ w. rw w))))
 
       after-is : rowAfter (rowCount d r) (givenBy d r P c S l) c (S c .rows r) R k
-          ≡ (if touchedBy (rowCount d r) (P .marks) (S c .rows r) R then (if P .gone && eqb (R 1 .class) c then nocell else turned (givenBy d r P c S l) c k (R k)) else R k)
+          ≡ (if touchedBy (rowCount d r) (P .marks) (S c .rows r) R then (if P .gone && eqb (R 1 .class) c then nocell else turned (givenBy d r P c S l .kinds) (givenBy d r P c S l .values) (givenBy d r P c S l .classes) c k (R k)) else R k)
       unfolding rowAfter
       after-is =
-          ap₂ (λ (x : List Bool) (g : Bool). if touchedBy (rowCount d r) x (S c .rows r) R then (if g && eqb (R 1 .class) c then nocell else turned (givenBy d r P c S l) c k (R k)) else R k)
+          ap₂ (λ (x : List Bool) (g : Bool). if touchedBy (rowCount d r) x (S c .rows r) R then (if g && eqb (R 1 .class) c then nocell else turned (givenBy d r P c S l .kinds) (givenBy d r P c S l .values) (givenBy d r P c S l .classes) c k (R k)) else R k)
           (given-marks d r c l P S Q foreign-few) (given-gone d r c l P S Q foreign-few)
 
       row-own : reach d T c E r l R k ≡ rowAfter (rowCount d r) (givenBy d r P c S l) c (S c .rows r) R k

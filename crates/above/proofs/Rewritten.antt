@@ -1,6 +1,6 @@
 -- The rows of a relation written one after another, each from what it was; and what each way through a row leaves.
 -- Assumes nothing.
-use Prim.Native.Nat.{ℕ, _+_, _<_}
+use Prim.Native.Nat.{ℕ, _+_}
 use mathlib.Core.Path.{_≡_, refl, sym, ap, ap₂, _∙_, fun-ext}
 use mathlib.Core.Bool.{Bool, true, false, _&&_}
 use mathlib.Core.Logic.{_≢_}
@@ -14,16 +14,13 @@ use Rattle.bounded.proofs.Reflection.{is-false}
 use Rattle.model.specs.declared.Description.{Description}
 use Rattle.model.specs.Description.{between}
 use Rattle.model.specs.Tables.{Cell, Row, cell, norow, same, Level, State}
-use Rattle.model.specs.Buffers.{inside, stateOf}
+use Rattle.model.specs.Buffers.{stateOf}
 use Rattle.model.proofs.Sound.{between-r}
-use Rattle.model.proofs.Border.{inside-says}
-use Rattle.cells.specs.declared.layout.Part.{Part}
-use Rattle.cells.specs.Layout.{Laid}
 use Rattle.cells.specs.Changed.{holding, valueAt, classAt, withCell, withRow, changeLevel}
 use Rattle.cells.proofs.Cells.{state-cell}
 use Rattle.cells.proofs.Written.{row-more}
 use Rattle.above.specs.declared.Plan.{Plan}
-use Rattle.above.specs.Facts.{OneRow, touchedBy, becomes, turned, rowAfter, withRows}
+use Rattle.above.specs.Facts.{OneRow, touchedBy, becomes, turnedBy, turned, rowAfter, withRows}
 
 -- ---- a level changed
 
@@ -48,10 +45,6 @@ unfolding changeLevel
 change-other l m f S e n = rw (e, ne-eqb l m n)
 
 -- ---- a cell
-
--- a plan has a number for each column
-pub column-small : (d : Description) (r l i k : ℕ) {p : Part} → Laid d r p → inside d r l i k ≡ true → k < 9
-column-small d r l i k h e = omega (arith, h .columns, h .narrow, inside-says d r l i k e .column)
 
 -- what a cell of the subject's class becomes, way by way
 pub becomes-taken : (kind : ℕ) (n x : Cell) → kind ≡ 1 → n ≡ becomes kind n x
@@ -92,29 +85,28 @@ cell-same r i k x B e =
     (λ u. rw (t, u)))
     (λ t. rw t))
 
-module _ (P : Plan) (c k : ℕ) where
-  turned-same : (x : Cell) → (x .class ≡ c → ⊥) → turned P c k x ≡ x
-  unfolding turned
-  turned-same x n = rw (ne-eqb (x .class) c n)
+module _ (kind : ℕ) (n : Cell) (c : ℕ) where
+  turned-same : (x : Cell) → (x .class ≡ c → ⊥) → turnedBy kind n c x ≡ x
+  unfolding turnedBy
+  turned-same x h = rw (ne-eqb (x .class) c h)
 
-  turned-own : (x : Cell) → x .class ≡ c → turned P c k x ≡ becomes (getD (P .kinds) k 0) (cell (getD (P .values) k 0) (getD (P .classes) k 0)) x
-  unfolding turned
+  turned-own : (x : Cell) → x .class ≡ c → turnedBy kind n c x ≡ becomes kind n x
+  unfolding turnedBy
   turned-own x e = rw (eq-eqb (x .class) c e)
 
-  module _ (d : Description) (vs cs : List ℕ) (r l i : ℕ) where
+  module _ (d : Description) (vs cs : List ℕ) (r l i k : ℕ) where
     abbrev S : State
     S = stateOf d (holding vs cs)
 
     -- a cell of another class stays
-    pub cell-kept : (classAt d cs r l i k ≡ c → ⊥) → S ≡ changeLevel l (withCell r i k (turned P c k (S l .rows r i k))) S
-    cell-kept n =
-        change-same l _ S (cell-same r i k _ (S l) (turned-same (S l .rows r i k) (λ e. n (sym (ap (λ (x : Cell). x .class) (state-cell d vs cs r l i k)) ∙ e))))
+    pub cell-kept : (classAt d cs r l i k ≡ c → ⊥) → S ≡ changeLevel l (withCell r i k (turnedBy kind n c (S l .rows r i k))) S
+    cell-kept h =
+        change-same l _ S (cell-same r i k _ (S l) (turned-same (S l .rows r i k) (λ e. h (sym (ap (λ (x : Cell). x .class) (state-cell d vs cs r l i k)) ∙ e))))
 
     -- a cell of the subject's class is stored as it becomes
     pub cell-turned : {v w o : ℕ} {S′ : State} → v ≡ valueAt d vs r l i k → classAt d cs r l i k ≡ c
-        → w ≡ becomes (getD (P .kinds) k 0) (cell (getD (P .values) k 0) (getD (P .classes) k 0)) (cell v c) .value
-        → o ≡ becomes (getD (P .kinds) k 0) (cell (getD (P .values) k 0) (getD (P .classes) k 0)) (cell v c) .class
-        → S′ ≡ changeLevel l (withCell r i k (cell w o)) S → S′ ≡ changeLevel l (withCell r i k (turned P c k (S l .rows r i k))) S
+        → w ≡ becomes kind n (cell v c) .value → o ≡ becomes kind n (cell v c) .class
+        → S′ ≡ changeLevel l (withCell r i k (cell w o)) S → S′ ≡ changeLevel l (withCell r i k (turnedBy kind n c (S l .rows r i k))) S
     cell-turned {v} {w} {o} e q p g h =
         h ∙ ap (λ (x : Cell). changeLevel l (withCell r i k x) S) (ap₂ cell p g ∙ sym (rw (state-cell d vs cs r l i k, ← e, q) (turned-own (cell v c) refl)))
 
@@ -137,11 +129,12 @@ cells-more l n r i g S₀ {S} {S′} p q =
         ∙ ap (λ (B : Level). B .rows r i (n + 1)) (change-here l (withRow n r i (λ k. g k (S₀ l .rows r i k))) S₀)
         ∙ row-next n r i (λ k. g k (S₀ l .rows r i k)) (S₀ l)
 
-pub cells-turned : (d : Description) (vs cs : List ℕ) (l n r i : ℕ) (P : Plan) (c : ℕ) {S S′ : State}
-    → S ≡ changeLevel l (withRow n r i (λ k. turned P c k (stateOf d (holding vs cs) l .rows r i k))) (stateOf d (holding vs cs))
-    → S′ ≡ changeLevel l (withCell r i (n + 1) (turned P c (n + 1) (S l .rows r i (n + 1)))) S
-    → S′ ≡ changeLevel l (withRow (n + 1) r i (λ k. turned P c k (stateOf d (holding vs cs) l .rows r i k))) (stateOf d (holding vs cs))
-cells-turned d vs cs l n r i P c p q = cells-more l n r i (turned P c) (stateOf d (holding vs cs)) p q
+pub cells-turned : (d : Description) (vs cs : List ℕ) (l n r i : ℕ) (ks us os : List ℕ) (c : ℕ) {S S′ : State}
+    → S ≡ changeLevel l (withRow n r i (λ k. turned ks us os c k (stateOf d (holding vs cs) l .rows r i k))) (stateOf d (holding vs cs))
+    → S′ ≡ changeLevel l (withCell r i (n + 1) (turnedBy (getD ks (n + 1) 0) (cell (getD us (n + 1) 0) (getD os (n + 1) 0)) c (S l .rows r i (n + 1)))) S
+    → S′ ≡ changeLevel l (withRow (n + 1) r i (λ k. turned ks us os c k (stateOf d (holding vs cs) l .rows r i k))) (stateOf d (holding vs cs))
+unfolding turned
+cells-turned d vs cs l n r i ks us os c p q = cells-more l n r i (turned ks us os c) (stateOf d (holding vs cs)) p q
 
 row-same : (m r i : ℕ) (R : Row) (B : Level) → R ≡ B .rows r i → withRow m r i R B ≡ B
 unfolding withRow
@@ -183,7 +176,7 @@ module _ (d : Description) (vs cs : List ℕ) (n m r l i : ℕ) (P : Plan) (c : 
     row-emptied g p h = h ∙ ap (λ (R : Row). changeLevel l (withRow m r i R) T) (fun-ext (λ k. rw (is-touched, g, class-is, p)))
 
     -- the cells of any other row change
-    pub row-turned : (P .gone && eqb q c) ≡ false → {S : State} → S ≡ changeLevel l (withRow m r i (λ k. turned P c k (T l .rows r i k))) T → S ≡ changeLevel l (withRow m r i after) T
+    pub row-turned : (P .gone && eqb q c) ≡ false → {S : State} → S ≡ changeLevel l (withRow m r i (λ k. turned (P .kinds) (P .values) (P .classes) c k (T l .rows r i k))) T → S ≡ changeLevel l (withRow m r i after) T
     unfolding rowAfter
     row-turned g h = h ∙ ap (λ (R : Row). changeLevel l (withRow m r i R) T) (fun-ext (λ k. rw (is-touched, class-is, g)))
 

@@ -30,6 +30,12 @@ pub record Apart (c l : ℕ) : Type 0 where
   pub few : c < 16
   pub other : l ≢ c
 
+-- a plan's kinds, values and classes: one for each column, from 0
+pub record Lists (k v c : ℕ) : Type 0 where
+  pub kinds : k ≡ 9
+  pub values : v ≡ 9
+  pub classes : c ≡ 9
+
 -- relation s refers to relation r, and both have rows at the two levels
 pub record Referring (d : Description) (r s c l : ℕ) : Type 0 where
   pub apart : Apart c l
@@ -84,13 +90,17 @@ touchedBy n marks B R =
 unfoldable pub becomes : ℕ → Cell → Cell → Cell
 becomes kind n x = if eqb kind 1 then n else if eqb kind 2 then (if same x n then x else cell 0 (x .class)) else x
 
-unfoldable pub turned : Plan → ℕ → ℕ → Cell → Cell
-turned P c k x =
-    if eqb (x .class) c then becomes (getD (P .kinds) k 0) (cell (getD (P .values) k 0) (getD (P .classes) k 0)) x else x
+-- what any cell becomes: one of another class than c stays
+unfoldable pub turnedBy : ℕ → Cell → ℕ → Cell → Cell
+turnedBy kind n c x = if eqb (x .class) c then becomes kind n x else x
+
+-- what the cell in column k becomes, by a plan's kinds, values and classes
+unfoldable pub turned : List ℕ → List ℕ → List ℕ → ℕ → ℕ → Cell → Cell
+turned kinds values classes c k x = turnedBy (getD kinds k 0) (cell (getD values k 0) (getD classes k 0)) c x
 
 unfoldable pub rowAfter : ℕ → Plan → ℕ → (ℕ → Row) → Row → Row
 rowAfter n P c B R k =
-    if touchedBy n (P .marks) B R then (if P .gone && eqb (R 1 .class) c then nocell else turned P c k (R k)) else R k
+    if touchedBy n (P .marks) B R then (if P .gone && eqb (R 1 .class) c then nocell else turned (P .kinds) (P .values) (P .classes) c k (R k)) else R k
 
 -- a level with the first n rows of relation r, m columns each, as F has them
 unfoldable pub withRows : ℕ → ℕ → ℕ → (ℕ → Row) → Level → Level

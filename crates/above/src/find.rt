@@ -40,17 +40,17 @@ pub fn near(
 pub fn touched(
     values: &[u32],
     classes: &[u8],
+    marks: &[bool],
     description: Description,
     relation: usize,
     part: Part,
-    marks: [bool; 64],
     subject: usize,
     level: usize,
     row: usize,
 ) -> bool
     requires { ⌜ Lent description relation part (length (now values)) (length (now classes)) × InRow description relation level row ⌝ }
-    requires { ⌜ InLevel description relation subject × OneRow description (now values) relation subject ⌝ }
-    ensures { λ r. ⌜ r ≡ touchedBy (rowCount description relation) marks (stateOf description (holding (now (values .entry)) (now (classes .entry))) subject .rows relation) (stateOf description (holding (now (values .entry)) (now (classes .entry))) level .rows relation row) ⌝ }
+    requires { ⌜ InLevel description relation subject × OneRow description (now values) relation subject × (length (now marks) ≡ 64) ⌝ }
+    ensures { λ r. ⌜ r ≡ touchedBy (rowCount description relation) (now (marks .entry)) (stateOf description (holding (now (values .entry)) (now (classes .entry))) subject .rows relation) (stateOf description (holding (now (values .entry)) (now (classes .entry))) level .rows relation row) ⌝ }
 {
     let key = value_at(values, description, relation, part, level, row, 1);
     if key == 0 {

@@ -15,7 +15,7 @@ ghost use Rattle.model.specs.Tables.{cell as cellOf};
 ghost use Rattle.model.specs.Buffers.{inside, stateOf};
 ghost use Rattle.cells.specs.Layout.{Lent, InLevel, InRow};
 ghost use Rattle.cells.specs.Changed.{holding, changeLevel, withCell, withRow};
-ghost use Rattle.above.specs.Facts.{OneRow, Apart, becomes, turned, rowAfter, withRows};
+ghost use Rattle.above.specs.Facts.{OneRow, Apart, Lists, becomes, turnedBy, turned, rowAfter, withRows};
 
 // The value of a cell of the subject's class afterwards.
 fn value(kind: u8, planned: u32, owner: u8, subject: u8, x: u32) -> u32
@@ -53,7 +53,9 @@ fn cell(
     description: Description,
     relation: usize,
     part: Part,
-    plan: Plan,
+    kind: u8,
+    planned: u32,
+    owner: u8,
     subject: u8,
     level: usize,
     row: usize,
@@ -61,16 +63,13 @@ fn cell(
 )
     requires { ⌜ Lent description relation part (length (now values)) (length (now classes)) ⌝ }
     requires { ⌜ inside description relation level row column ≡ true ⌝ }
-    ensures { λ _. ⌜ stateOf description (holding (now (values .exit)) (now (classes .exit))) ≡ changeLevel level (withCell relation row column (turned plan subject column (stateOf description (holding (now (values .entry)) (now (classes .entry))) level .rows relation row column))) (stateOf description (holding (now (values .entry)) (now (classes .entry)))) ⌝ }
+    ensures { λ _. ⌜ stateOf description (holding (now (values .exit)) (now (classes .exit))) ≡ changeLevel level (withCell relation row column (turnedBy kind (cellOf planned owner) subject (stateOf description (holding (now (values .entry)) (now (classes .entry))) level .rows relation row column))) (stateOf description (holding (now (values .entry)) (now (classes .entry)))) ⌝ }
 {
     let owned = class_at(classes, description, relation, part, level, row, column);
     if owned != subject {
         return;
     }
     let x = value_at(values, description, relation, part, level, row, column);
-    let kind = plan.kinds[column];
-    let planned = plan.values[column];
-    let owner = plan.classes[column];
     let new = value(kind, planned, owner, subject, x);
     let whose = class(kind, planned, owner, subject, x);
     put(
@@ -91,34 +90,38 @@ fn cell(
 fn cells(
     values: &mut [u32],
     classes: &mut [u8],
+    kinds: &[u8],
+    news: &[u32],
+    owners: &[u8],
     description: Description,
     relation: usize,
     part: Part,
-    plan: Plan,
     subject: u8,
     level: usize,
     row: usize,
 )
     requires { ⌜ Lent description relation part (length (now values)) (length (now classes)) ⌝ }
-    requires { ⌜ InRow description relation level row ⌝ }
-    ensures { λ _. ⌜ stateOf description (holding (now (values .exit)) (now (classes .exit))) ≡ changeLevel level (withRow (columnCount description relation) relation row (λ k. turned plan subject k (stateOf description (holding (now (values .entry)) (now (classes .entry))) level .rows relation row k))) (stateOf description (holding (now (values .entry)) (now (classes .entry)))) ⌝ }
+    requires { ⌜ InRow description relation level row × Lists (length (now kinds)) (length (now news)) (length (now owners)) ⌝ }
+    ensures { λ _. ⌜ stateOf description (holding (now (values .exit)) (now (classes .exit))) ≡ changeLevel level (withRow (columnCount description relation) relation row (λ k. turned (now (kinds .entry)) (now (news .entry)) (now (owners .entry)) subject k (stateOf description (holding (now (values .entry)) (now (classes .entry))) level .rows relation row k))) (stateOf description (holding (now (values .entry)) (now (classes .entry)))) ⌝ }
 {
     let columns = part.columns;
     let mut column = 0;
     while column < columns {
+        column += 1;
         cell(
             values,
             classes,
             description,
             relation,
             part,
-            plan,
+            kinds[column],
+            news[column],
+            owners[column],
             subject,
             level,
             row,
-            column + 1,
+            column,
         );
-        column += 1;
     }
 }
 
@@ -126,27 +129,30 @@ fn cells(
 fn row(
     values: &mut [u32],
     classes: &mut [u8],
+    kinds: &[u8],
+    news: &[u32],
+    owners: &[u8],
+    marks: &[bool],
     description: Description,
     relation: usize,
     part: Part,
-    plan: Plan,
+    gone: bool,
     subject: u8,
     level: usize,
     row: usize,
 )
     requires { ⌜ Lent description relation part (length (now values)) (length (now classes)) × InRow description relation level row ⌝ }
-    requires { ⌜ InLevel description relation subject × OneRow description (now values) relation subject ⌝ }
-    ensures { λ _. ⌜ stateOf description (holding (now (values .exit)) (now (classes .exit))) ≡ changeLevel level (withRow (columnCount description relation) relation row (rowAfter (rowCount description relation) plan subject (stateOf description (holding (now (values .entry)) (now (classes .entry))) subject .rows relation) (stateOf description (holding (now (values .entry)) (now (classes .entry))) level .rows relation row))) (stateOf description (holding (now (values .entry)) (now (classes .entry)))) ⌝ }
+    requires { ⌜ InLevel description relation subject × OneRow description (now values) relation subject × Lists (length (now kinds)) (length (now news)) (length (now owners)) × (length (now marks) ≡ 64) ⌝ }
+    ensures { λ _. ⌜ stateOf description (holding (now (values .exit)) (now (classes .exit))) ≡ changeLevel level (withRow (columnCount description relation) relation row (rowAfter (rowCount description relation) (record { marks = now (marks .entry); gone = gone; kinds = now (kinds .entry); values = now (news .entry); classes = now (owners .entry) }) subject (stateOf description (holding (now (values .entry)) (now (classes .entry))) subject .rows relation) (stateOf description (holding (now (values .entry)) (now (classes .entry))) level .rows relation row))) (stateOf description (holding (now (values .entry)) (now (classes .entry)))) ⌝ }
 {
-    let marks = plan.marks;
     let at = subject as usize;
     if !touched(
         values,
         classes,
+        marks,
         description,
         relation,
         part,
-        marks,
         at,
         level,
         row,
@@ -154,17 +160,19 @@ fn row(
         return;
     }
     let class = class_at(classes, description, relation, part, level, row, 1);
-    if plan.gone && class == subject {
+    if gone && class == subject {
         clear(values, classes, description, relation, part, level, row);
         return;
     }
     cells(
         values,
         classes,
+        kinds,
+        news,
+        owners,
         description,
         relation,
         part,
-        plan,
         subject,
         level,
         row,
@@ -186,16 +194,25 @@ pub fn rows(
     requires { ⌜ Apart subject level × InLevel description relation subject × OneRow description (now values) relation subject ⌝ }
     ensures { λ _. ⌜ stateOf description (holding (now (values .exit)) (now (classes .exit))) ≡ changeLevel level (withRows (rowCount description relation) (columnCount description relation) relation (λ i. rowAfter (rowCount description relation) plan subject (stateOf description (holding (now (values .entry)) (now (classes .entry))) subject .rows relation) (stateOf description (holding (now (values .entry)) (now (classes .entry))) level .rows relation i))) (stateOf description (holding (now (values .entry)) (now (classes .entry)))) ⌝ }
 {
+    let kinds = plan.kinds;
+    let news = plan.values;
+    let owners = plan.classes;
+    let marks = plan.marks;
+    let gone = plan.gone;
     let rows = part.rows;
     let mut i = 0;
     while i < rows {
         row(
             values,
             classes,
+            &kinds,
+            &news,
+            &owners,
+            &marks,
             description,
             relation,
             part,
-            plan,
+            gone,
             subject,
             level,
             i,

@@ -2,28 +2,25 @@
 -- Assumes nothing.
 use Prim.Native.Nat.{ℕ, suc, _≤_, _<_}
 use mathlib.Core.Path.{_≡_, refl, sym, ap, ap₂, _∙_, fun-ext}
-use mathlib.Core.Bool.{Bool, true, false, not, _&&_, _||_}
-use mathlib.Core.List.{List, [], _∷_}
-use mathlib.Core.Logic.{_≢_}
-use mathlib.Core.Option.{Option, none, some}
+use mathlib.Core.Bool.{Bool, true, false, not, _&&_}
+use mathlib.Core.List.{List}
+use mathlib.Core.Option.{some}
 use native.Mathlib.Omega.{arith}
 use lib.Dec.{eqb, ltb}
 use lib.ListN.{length, getD, replicate, getD-replicate, List·getD-eq-default}
-use borrow.Author.Tests.{eq-eqb, ne-eqb, eqb-true, ltb-true, ltb-false}
-use Rattle.bounded.specs.Tests.{if_then_else_}
+use borrow.Author.Tests.{eq-eqb, eqb-true, ltb-true, ltb-false}
 use Rattle.bounded.specs.Bounded.{anyBelow}
 use Rattle.bounded.proofs.Any.{any-cong}
 use Rattle.bounded.proofs.Cases.{cases}
 use Rattle.bounded.proofs.Reflection.{of-true}
 use Rattle.model.specs.declared.Description.{Description}
-use Rattle.model.specs.declared.Fault.{Fault}
 use Rattle.model.specs.declared.Fault.the-variants as Faults
 use Rattle.model.specs.declared.Answer.the-variants as Answers
 use Rattle.model.specs.Description.{between, rowCount, columnCount, foreignOf, refersOf}
-use Rattle.model.specs.Tables.{Cell, Row, State, Level, rowsOf, cell, nocell, norow, seek, at}
+use Rattle.model.specs.Tables.{Cell, State, Level, rowsOf, nocell, norow, seek, at}
 use Rattle.model.specs.Buffers.{stateOf}
 use Rattle.model.specs.Conditions.{met}
-use Rattle.model.specs.Effect.{Rows, Effect, Above, Change, keep, only}
+use Rattle.model.specs.Effect.{Rows, Effect, Above, Change, only}
 use Rattle.model.specs.Delete.{referred, deleteTests, deleted}
 use Rattle.model.specs.Run.{left}
 use Rattle.model.proofs.Sound.{between-r}
@@ -34,7 +31,7 @@ use Rattle.asked.specs.Facts.{Marked, Counted, metAt}
 use Rattle.above.specs.declared.Plan.{Plan}
 use Rattle.above.specs.Facts.{markedAt, changeOf, aboveOf, carried, withRows, Working, Planned}
 use Rattle.above.proofs.Carried.{carried-own}
-use Rattle.theory.proofs.Seen.{seen-own, seen-at}
+use Rattle.theory.proofs.Seen.{seen-own}
 use Rattle.change.specs.Facts.{Standing, Deletes, refuses, does, sight, metRows}
 use Rattle.marks.specs.Marking.{Chosen, rowMarked, emptyMarked, namesMarked, rowRefers, refersMarked, referredMarked}
 use Rattle.change.proofs.Answers.{first-fails, first-passes, first-none}

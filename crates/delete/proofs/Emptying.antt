@@ -1,7 +1,7 @@
 -- What refers to a marked row: key, row and relation.
 -- Assumes nothing.
-use Prim.Native.Nat.{ℕ, zero, suc, _+_, _≤_, _<_}
-use mathlib.Core.Path.{_≡_, refl, sym, _∙_}
+use Prim.Native.Nat.{ℕ, suc, _+_, _≤_, _<_}
+use mathlib.Core.Path.{_≡_, refl, sym}
 use mathlib.Core.Bool.{Bool, true, false}
 use mathlib.Core.Logic.{_≢_}
 use mathlib.Core.List.{List}
@@ -11,7 +11,7 @@ use borrow.Author.Tests.{eq-eqb, ne-eqb, lt-ltb, le-ltb}
 use Rattle.bounded.specs.Bounded.{anyBelow}
 use Rattle.bounded.proofs.Any.{any-start, any-more, any-here, any-end, any-of-none}
 use Rattle.model.specs.declared.Description.{Description}
-use Rattle.model.specs.Description.{between, isRelation, ofRelation, rowCount, columnCount, foreignOf, refersOf, sound}
+use Rattle.model.specs.Description.{between, isRelation, ofRelation, rowCount, foreignOf, refersOf}
 use Rattle.model.specs.Buffers.{inside}
 use Rattle.model.proofs.Sound.{Reference}
 use Rattle.model.proofs.Border.{inside-shown}

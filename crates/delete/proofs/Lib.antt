@@ -1,2 +1,3 @@
 pub mod Deleted
 pub mod Emptying
+pub mod Settled

@@ -16,7 +16,7 @@ ghost use mathlib.Core.Bool.{true};
 ghost use mathlib.Core.Option.{some};
 ghost use lib.ListN.{length};
 ghost use Prim.Native.Nat.{_<_};
-ghost use Rattle.model.specs.Description.{isRelation, rowCount, columnCount};
+ghost use Rattle.model.specs.Description.{rowCount, columnCount};
 ghost use Rattle.model.specs.Tables.{norow};
 ghost use Rattle.model.specs.Buffers.{stateOf};
 ghost use Rattle.model.specs.Conditions.{conditionsFormed};

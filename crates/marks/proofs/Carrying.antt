@@ -9,19 +9,19 @@ use mathlib.Core.Option.{some}
 use native.Mathlib.Omega.{arith}
 use lib.Dec.{eqb, ltb}
 use lib.ListN.{getD}
-use borrow.Author.Tests.{eq-eqb, ne-eqb, le-ltb, ltb-true, ltb-false, eqb-true, eqb-false}
+use borrow.Author.Tests.{eq-eqb, ne-eqb, ltb-true, ltb-false, eqb-true, eqb-false}
 use Rattle.bounded.specs.Tests.{if_then_else_}
 use Rattle.bounded.specs.Bounded.{anyBelow, countBelow}
 use Rattle.bounded.proofs.Cases.{cases, clash, or-true-right}
 use Rattle.bounded.proofs.Count.{count-cong}
 use Rattle.bounded.proofs.Reflection.{of-true}
 use Rattle.model.specs.declared.Description.{Description}
-use Rattle.model.specs.Description.{between, over, isColumn, rowCount, columnCount, foreignOf, refersOf}
-use Rattle.model.specs.Tables.{Row, Tables, norow, nocell, same, used, Level, State, rowsOf, place, seek, at}
+use Rattle.model.specs.Description.{between, over, isColumn, columnCount, refersOf}
+use Rattle.model.specs.Tables.{Row, Tables, norow, used, Level, State, rowsOf, place, seek, at}
 use Rattle.model.specs.Buffers.{inside, stateOf}
 use Rattle.model.specs.Legal.{Legal}
 use Rattle.model.specs.Conditions.{met}
-use Rattle.model.specs.Effect.{Effect, Above, changed, goneAt, reach}
+use Rattle.model.specs.Effect.{Effect, Above, goneAt, reach}
 use Rattle.model.specs.Run.{left}
 use Rattle.model.proofs.Border.{state-framed}
 use Rattle.theory.proofs.Described.{sound-laws}

@@ -1,4 +1,5 @@
 pub mod Outcomes
 pub mod Served
+pub mod Settled
 pub mod Shapes
 pub mod Verdicts

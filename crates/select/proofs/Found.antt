@@ -1,6 +1,6 @@
 -- The rows that SELECT finds: level by level and row by row, how many there are, and that a subject sees all of them.
 -- Assumes nothing.
-use Prim.Native.Nat.{ℕ, zero, suc, _+_, _*_, _≤_, _<_}
+use Prim.Native.Nat.{ℕ, zero, suc, _+_, _≤_, _<_}
 use mathlib.Core.Path.{_≡_, refl, sym, ap, ap₂, _∙_, subst}
 use mathlib.Core.Bool.{Bool, true, false, _&&_}
 use mathlib.Core.List.{List, [], _∷_, _++_, append-assoc, append-nil}
@@ -8,16 +8,16 @@ use native.Mathlib.Omega.{arith}
 use lib.Dec.{eqb}
 use lib.ListN.{length, getD, take, length-append}
 use lib.Seq.{take-suc}
-use Rattle.bounded.specs.Tests.{if_then_else_, Reflects}
+use Rattle.bounded.specs.Tests.{if_then_else_}
 use Rattle.bounded.specs.Bounded.{countBelow}
-use Rattle.bounded.specs.Lists.{listBelow, concatBelow}
+use Rattle.bounded.specs.Lists.{concatBelow}
 use Rattle.bounded.proofs.Cases.{cases, at-end}
 use Rattle.bounded.proofs.Count.{count-cong}
 use Rattle.bounded.proofs.All.{all-at}
-use Rattle.bounded.proofs.Reflection.{of-true, if-cases, any-r, eqb-r}
+use Rattle.bounded.proofs.Reflection.{of-true, any-r, eqb-r}
 use Rattle.model.specs.declared.Description.{Description}
 use Rattle.model.specs.Description.{over, heightAt, columnCount, rowCount}
-use Rattle.model.specs.Tables.{Level, Row, State, seen}
+use Rattle.model.specs.Tables.{Row, State, seen}
 use Rattle.model.specs.Listed.{among, eachLevel}
 use Rattle.model.specs.Select.{Shown, asked, foundAt, found}
 use Rattle.theory.proofs.Seen.{seen-level}

@@ -8,8 +8,8 @@ use native.Mathlib.Nat.{le-trans, le-refl, not-suc-le-zero}
 use native.Mathlib.Numerals.{add-one}
 use native.Mathlib.Omega.{arith}
 use lib.Dec.{eqb, ltb}
-use lib.ListN.{length, getD, take, set, replicate, length-append, length-set}
-use lib.Seq.{length-take-le, take-suc-set, getD-take}
+use lib.ListN.{length, getD, set, replicate, length-append, length-set}
+use lib.Seq.{take-suc-set, getD-take}
 use borrow.Author.Tests.{lt-ltb, le-ltb, eq-eqb, ne-eqb}
 use Rattle.bounded.specs.Tests.{if_then_else_}
 use Rattle.bounded.specs.Bounded.{countBelow}

@@ -1,4 +1,5 @@
 pub mod Found
 pub mod Heights
 pub mod Selected
+pub mod Settled
 pub mod Shown

@@ -6,21 +6,20 @@ use mathlib.Core.Bool.{Bool, true, false}
 use mathlib.Core.List.{List, [], _∷_, _++_, map, append-assoc, append-nil}
 use native.Mathlib.Nat.{not-suc-le-zero}
 use native.Mathlib.Omega.{arith}
-use lib.ListN.{length, getD, take, drop, set, length-append, length-map}
+use lib.ListN.{length, take, drop, set, length-append, length-map}
 use lib.Seq.{length-take-le}
-use Rattle.bounded.specs.Tests.{if_then_else_}
 use Rattle.bounded.specs.Lists.{listBelow, concatBelow, writeAt}
 use Rattle.bounded.proofs.Cases.{split-last, at-end}
-use Rattle.bounded.proofs.Lists.{write-none, write-more, write-on, length-write, list-length, concat-more, concat-room}
+use Rattle.bounded.proofs.Lists.{write-none, write-more, write-on, list-length, concat-more}
 use Rattle.model.specs.declared.Description.{Description}
 use Rattle.model.specs.Description.{columnCount}
-use Rattle.model.specs.Tables.{Cell, cell, Row}
+use Rattle.model.specs.Tables.{Cell, Row}
 use Rattle.model.specs.Buffers.{stateOf}
 use Rattle.model.specs.Select.{Shown, valuesShown, ownersShown}
-use Rattle.cells.specs.Changed.{holding, valueAt, classAt}
+use Rattle.cells.specs.Changed.{holding, classAt}
 use Rattle.cells.proofs.Cells.{state-cell}
 use Rattle.select.specs.declared.At.{At}
-use Rattle.select.specs.Facts.{valuesOf, ownersOf, rowShown, start, Room, Wrote, Stands}
+use Rattle.select.specs.Facts.{valuesOf, ownersOf, rowShown, Room, Wrote}
 
 -- ---- rows and their numbers
 

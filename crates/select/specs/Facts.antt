@@ -1,14 +1,17 @@
 -- What the functions of the statement know and promise besides.
 -- Assumes nothing: these are definitions and statements.
 use mathlib.Core.Path.{_≡_}
-use mathlib.Core.Bool.{Bool, _&&_}
+use mathlib.Core.Bool.{Bool, true, false, _&&_}
 use mathlib.Core.List.{List, [], _∷_, _++_}
 use Prim.Native.Nat.{ℕ, suc, _+_, _≤_, _<_}
-use lib.Dec.{eqb}
+use lib.Dec.{eqb, leb}
 use lib.ListN.{length, getD, take}
 use Rattle.bounded.specs.Tests.{if_then_else_}
 use Rattle.bounded.specs.Lists.{listBelow, concatBelow, writeAt}
 use Rattle.model.specs.declared.Description.{Description}
+use Rattle.model.specs.declared.Fault.the-variants as Faults
+use Rattle.model.specs.declared.Answer.{Answer}
+use Rattle.model.specs.declared.Answer.the-variants as Answers
 use Rattle.model.specs.Description.{heightAt, columnCount}
 use Rattle.model.specs.Tables.{Row, State}
 use Rattle.model.specs.Select.{Shown, asked, foundAt, found, valuesShown, ownersShown}
@@ -91,3 +94,12 @@ pub record Wrote (rows : List Shown) (from to : At) (shown owners shown′ owner
 pub record Stands (rows : List Shown) (shown owners shown′ owners′ : List ℕ) : Type 0 where
   pub values-is : shown′ ≡ writeAt 0 (valuesShown rows) shown
   pub owners-is : owners′ ≡ writeAt 0 (ownersShown rows) owners
+
+-- both buffers are as long as the rows need
+unfoldable pub fits : List Shown → List ℕ → List ℕ → Bool
+fits rows shown owners = leb (length (valuesShown rows)) (length shown) && leb (length (ownersShown rows)) (length owners)
+
+-- the rows are counted and written where they fit, and every cell stays where they don't
+pub data Filled (rows : List Shown) (shown owners shown′ owners′ : List ℕ) (a : Answer) : Type 0 where
+  short : fits rows shown owners ≡ false → a ≡ Answers.Refused Faults.Short → shown′ ≡ shown → owners′ ≡ owners → Filled rows shown owners shown′ owners′ a
+  full : fits rows shown owners ≡ true → a ≡ Answers.Done (length rows) → Stands rows shown owners shown′ owners′ → Filled rows shown owners shown′ owners′ a

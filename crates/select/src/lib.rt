@@ -26,7 +26,7 @@ ghost use Rattle.cells.specs.Layout.{Sized, Lent, InLevel, InRow};
 ghost use Rattle.cells.specs.Changed.{holding};
 ghost use Rattle.asked.specs.Facts.{Asking};
 ghost use Rattle.change.specs.Facts.{Standing, Selects};
-ghost use Rattle.select.specs.Facts.{Holds, InLevels, Room, Wrote, Stands, held, start, levelsAt, shownLevels, foundIn, valuesOf, ownersOf, rowShown, wanted as wantedOf};
+ghost use Rattle.select.specs.Facts.{Holds, InLevels, Room, Wrote, Stands, Filled, held, start, levelsAt, shownLevels, foundIn, valuesOf, ownersOf, rowShown, wanted as wantedOf};
 
 // Every AT level exists and none is listed twice.
 pub fn formed(list: &[u32], description: Description) -> bool
@@ -55,11 +55,11 @@ fn asked(list: &[u32], subject: usize, level: usize) -> bool
 }
 
 // Whether a level of that height is asked for.
-fn wanted(list: &[u32], description: Description, subject: usize, height: u32, level: usize) -> bool
+fn wanted(list: &[u32], d: Description, subject: usize, height: u32, level: usize) -> bool
     requires { ⌜ level < 16 ⌝ }
-    ensures { λ r. ⌜ r ≡ wantedOf description subject (now (list .entry)) height level ⌝ }
+    ensures { λ r. ⌜ r ≡ wantedOf d subject (now (list .entry)) height level ⌝ }
 {
-    if Label(description.labels[level]).height() != height {
+    if Label(d.labels[level]).height() != height {
         return false;
     }
     asked(list, subject, level)
@@ -81,22 +81,16 @@ fn add(levels: Levels, level: u8) -> Levels
 }
 
 // The levels of one height besides, by number.
-fn high(
-    list: &[u32],
-    description: Description,
-    subject: usize,
-    height: u32,
-    before: Levels,
-) -> Levels
+fn high(list: &[u32], d: Description, subject: usize, height: u32, before: Levels) -> Levels
     requires { ⌜ Holds (held before) before ⌝ }
-    requires { ⌜ (description .levels ≤ 16) × (before .count + length (levelsAt description subject (now list) height) ≤ 16) ⌝ }
-    ensures { λ r. ⌜ Holds (held before ++ levelsAt description subject (now (list .entry)) height) r ⌝ }
+    requires { ⌜ (d .levels ≤ 16) × (before .count + length (levelsAt d subject (now list) height) ≤ 16) ⌝ }
+    ensures { λ r. ⌜ Holds (held before ++ levelsAt d subject (now (list .entry)) height) r ⌝ }
 {
-    let levels = description.levels as usize;
+    let levels = d.levels as usize;
     let mut found = before;
     let mut level = 0;
     while level < levels {
-        if wanted(list, description, subject, height, level) {
+        if wanted(list, d, subject, height, level) {
             found = add(found, level as u8);
         }
         level += 1;
@@ -105,9 +99,9 @@ fn high(
 }
 
 // The levels by height, then number.
-fn lay(list: &[u32], description: Description, subject: usize) -> Levels
-    requires { ⌜ description .levels ≤ 16 ⌝ }
-    ensures { λ r. ⌜ Holds (shownLevels description subject (now (list .entry))) r ⌝ }
+fn lay(list: &[u32], d: Description, subject: usize) -> Levels
+    requires { ⌜ d .levels ≤ 16 ⌝ }
+    ensures { λ r. ⌜ Holds (shownLevels d subject (now (list .entry))) r ⌝ }
 {
     let none = [0u8; 16];
     let mut found = Levels {
@@ -116,7 +110,7 @@ fn lay(list: &[u32], description: Description, subject: usize) -> Levels
     };
     let mut height = 0;
     while height < 24 {
-        found = high(list, description, subject, height, found);
+        found = high(list, d, subject, height, found);
         height += 1;
     }
     found
@@ -127,17 +121,17 @@ fn rows(
     values: &[u32],
     classes: &[u8],
     conditions: &[u32],
-    description: Description,
+    d: Description,
     order: [[bool; 16]; 16],
     relation: usize,
     part: Part,
-    levels: Levels,
+    laid: Levels,
 ) -> u32
-    requires { ⌜ Lent description relation part (length (now values)) (length (now classes)) × InLevels description relation levels ⌝ }
-    requires { ⌜ Asking description order relation (now conditions) ⌝ }
-    ensures { λ r. ⌜ (r ≡ length (foundIn description relation (now (conditions .entry)) (stateOf description (holding (now (values .entry)) (now (classes .entry)))) levels)) × (r ≤ 1024) ⌝ }
+    requires { ⌜ Lent d relation part (length (now values)) (length (now classes)) × InLevels d relation laid ⌝ }
+    requires { ⌜ Asking d order relation (now conditions) ⌝ }
+    ensures { λ r. ⌜ (r ≡ length (foundIn d relation (now (conditions .entry)) (stateOf d (holding (now (values .entry)) (now (classes .entry)))) laid)) × (r ≤ 1024) ⌝ }
 {
-    let total = levels.count;
+    let total = laid.count;
     let mut rows = 0;
     let mut i = 0;
     while i < total {
@@ -145,11 +139,11 @@ fn rows(
             values,
             classes,
             conditions,
-            description,
+            d,
             order,
             relation,
             part,
-            levels.levels[i] as usize,
+            laid.levels[i] as usize,
         );
         rows += count(marks, part.rows);
         i += 1;
@@ -167,21 +161,21 @@ struct At {
 fn copy(
     values: &[u32],
     shown: &mut [u32],
-    description: Description,
+    d: Description,
     relation: usize,
     part: Part,
     level: usize,
     row: usize,
-    at: usize,
+    at: At,
 )
-    requires { ⌜ Sized description relation part (length (now values)) × InRow description relation level row ⌝ }
-    requires { ⌜ at + columnCount description relation ≤ length (now shown) ⌝ }
-    ensures { λ _. ⌜ now (shown .exit) ≡ writeAt at (valuesOf description (now (values .entry)) relation level row) (now (shown .entry)) ⌝ }
+    requires { ⌜ Sized d relation part (length (now values)) × InRow d relation level row ⌝ }
+    requires { ⌜ at .values + columnCount d relation ≤ length (now shown) ⌝ }
+    ensures { λ _. ⌜ now (shown .exit) ≡ writeAt (at .values) (valuesOf d (now (values .entry)) relation level row) (now (shown .entry)) ⌝ }
 {
     let columns = part.columns;
     let mut column = 0;
     while column < columns {
-        shown[at + column] = value_at(values, description, relation, part, level, row, column + 1);
+        shown[at.values + column] = value_at(values, d, relation, part, level, row, column + 1);
         column += 1;
     }
 }
@@ -190,32 +184,24 @@ fn copy(
 fn own(
     classes: &[u8],
     owners: &mut [u8],
-    description: Description,
+    d: Description,
     relation: usize,
     part: Part,
     level: usize,
     row: usize,
-    at: usize,
+    at: At,
 )
-    requires { ⌜ Sized description relation part (length (now classes)) × InRow description relation level row ⌝ }
-    requires { ⌜ (level < 16) × (at + columnCount description relation < length (now owners)) ⌝ }
-    ensures { λ _. ⌜ now (owners .exit) ≡ writeAt at (ownersOf description (now (classes .entry)) relation level row) (now (owners .entry)) ⌝ }
+    requires { ⌜ Sized d relation part (length (now classes)) × InRow d relation level row ⌝ }
+    requires { ⌜ (level < 16) × (at .owners + columnCount d relation < length (now owners)) ⌝ }
+    ensures { λ _. ⌜ now (owners .exit) ≡ writeAt (at .owners) (ownersOf d (now (classes .entry)) relation level row) (now (owners .entry)) ⌝ }
 {
-    let columns = part.columns;
+    let last = part.columns;
     let mut column = 0;
-    while column < columns {
-        owners[at + column] = class_at(
-            classes,
-            description,
-            relation,
-            part,
-            level,
-            row,
-            column + 1,
-        );
+    while column < last {
+        owners[at.owners + column] = class_at(classes, d, relation, part, level, row, column + 1);
         column += 1;
     }
-    owners[at + columns] = level as u8;
+    owners[at.owners + last] = level as u8;
 }
 
 // A row where it is marked; where the next goes.
@@ -224,7 +210,7 @@ fn put(
     classes: &[u8],
     shown: &mut [u32],
     owners: &mut [u8],
-    description: Description,
+    d: Description,
     relation: usize,
     part: Part,
     level: usize,
@@ -232,33 +218,15 @@ fn put(
     marked: bool,
     at: At,
 ) -> At
-    requires { ⌜ Lent description relation part (length (now values)) (length (now classes)) × (InRow description relation level row × (level < 16)) ⌝ }
-    requires { ⌜ Room (rowShown description relation (stateOf description (holding (now values) (now classes)) level .rows relation) level marked row) at (length (now shown)) (length (now owners)) ⌝ }
-    ensures { λ r. ⌜ Wrote (rowShown description relation (stateOf description (holding (now (values .entry)) (now (classes .entry))) level .rows relation) level marked row) at r (now (shown .entry)) (now (owners .entry)) (now (shown .exit)) (now (owners .exit)) ⌝ }
+    requires { ⌜ Lent d relation part (length (now values)) (length (now classes)) × (InRow d relation level row × (level < 16)) ⌝ }
+    requires { ⌜ Room (rowShown d relation (stateOf d (holding (now values) (now classes)) level .rows relation) level marked row) at (length (now shown)) (length (now owners)) ⌝ }
+    ensures { λ r. ⌜ Wrote (rowShown d relation (stateOf d (holding (now (values .entry)) (now (classes .entry))) level .rows relation) level marked row) at r (now (shown .entry)) (now (owners .entry)) (now (shown .exit)) (now (owners .exit)) ⌝ }
 {
     if !marked {
         return at;
     }
-    copy(
-        values,
-        shown,
-        description,
-        relation,
-        part,
-        level,
-        row,
-        at.values,
-    );
-    own(
-        classes,
-        owners,
-        description,
-        relation,
-        part,
-        level,
-        row,
-        at.owners,
-    );
+    copy(values, shown, d, relation, part, level, row, at);
+    own(classes, owners, d, relation, part, level, row, at);
     At {
         values: at.values + part.columns,
         owners: at.owners + part.columns + 1,
@@ -272,27 +240,18 @@ fn show(
     conditions: &[u32],
     shown: &mut [u32],
     owners: &mut [u8],
-    description: Description,
+    d: Description,
     order: [[bool; 16]; 16],
     relation: usize,
     part: Part,
     level: usize,
     before: At,
 ) -> At
-    requires { ⌜ Lent description relation part (length (now values)) (length (now classes)) × (InLevel description relation level × Asking description order relation (now conditions)) ⌝ }
-    requires { ⌜ Room (foundAt description relation (now conditions) (stateOf description (holding (now values) (now classes))) level) before (length (now shown)) (length (now owners)) ⌝ }
-    ensures { λ r. ⌜ Wrote (foundAt description relation (now (conditions .entry)) (stateOf description (holding (now (values .entry)) (now (classes .entry)))) level) before r (now (shown .entry)) (now (owners .entry)) (now (shown .exit)) (now (owners .exit)) ⌝ }
+    requires { ⌜ Lent d relation part (length (now values)) (length (now classes)) × (InLevel d relation level × Asking d order relation (now conditions)) ⌝ }
+    requires { ⌜ Room (foundAt d relation (now conditions) (stateOf d (holding (now values) (now classes))) level) before (length (now shown)) (length (now owners)) ⌝ }
+    ensures { λ r. ⌜ Wrote (foundAt d relation (now (conditions .entry)) (stateOf d (holding (now (values .entry)) (now (classes .entry)))) level) before r (now (shown .entry)) (now (owners .entry)) (now (shown .exit)) (now (owners .exit)) ⌝ }
 {
-    let marks = marks(
-        values,
-        classes,
-        conditions,
-        description,
-        order,
-        relation,
-        part,
-        level,
-    );
+    let marks = marks(values, classes, conditions, d, order, relation, part, level);
     let rows = part.rows;
     let mut at = before;
     let mut row = 0;
@@ -302,7 +261,7 @@ fn show(
             classes,
             shown,
             owners,
-            description,
+            d,
             relation,
             part,
             level,
@@ -322,41 +281,81 @@ fn write(
     conditions: &[u32],
     shown: &mut [u32],
     owners: &mut [u8],
-    description: Description,
+    d: Description,
     order: [[bool; 16]; 16],
     relation: usize,
     part: Part,
-    levels: Levels,
+    laid: Levels,
 )
-    requires { ⌜ Lent description relation part (length (now values)) (length (now classes)) × (InLevels description relation levels × Asking description order relation (now conditions)) ⌝ }
-    requires { ⌜ Room (foundIn description relation (now conditions) (stateOf description (holding (now values) (now classes))) levels) start (length (now shown)) (length (now owners)) ⌝ }
-    ensures { λ _. ⌜ Stands (foundIn description relation (now (conditions .entry)) (stateOf description (holding (now (values .entry)) (now (classes .entry)))) levels) (now (shown .entry)) (now (owners .entry)) (now (shown .exit)) (now (owners .exit)) ⌝ }
+    requires { ⌜ Lent d relation part (length (now values)) (length (now classes)) × (InLevels d relation laid × Asking d order relation (now conditions)) ⌝ }
+    requires { ⌜ Room (foundIn d relation (now conditions) (stateOf d (holding (now values) (now classes))) laid) start (length (now shown)) (length (now owners)) ⌝ }
+    ensures { λ _. ⌜ Stands (foundIn d relation (now (conditions .entry)) (stateOf d (holding (now (values .entry)) (now (classes .entry)))) laid) (now (shown .entry)) (now (owners .entry)) (now (shown .exit)) (now (owners .exit)) ⌝ }
 {
-    let total = levels.count;
+    let total = laid.count;
     let mut at = At {
         values: 0,
         owners: 0,
     };
-    let mut i = 0;
-    while i < total {
+    let mut next = 0;
+    while next < total {
         at = show(
             values,
             classes,
             conditions,
             shown,
             owners,
-            description,
+            d,
             order,
             relation,
             part,
-            levels.levels[i] as usize,
+            laid.levels[next] as usize,
             at,
         );
-        i += 1;
+        next += 1;
     }
 }
 
-// The tests, in their order, and then the rows.
+// The rows, where they fit both buffers.
+fn fill(
+    values: &[u32],
+    classes: &[u8],
+    conditions: &[u32],
+    shown: &mut [u32],
+    owners: &mut [u8],
+    d: Description,
+    order: [[bool; 16]; 16],
+    relation: usize,
+    part: Part,
+    laid: Levels,
+) -> Answer
+    requires { ⌜ Lent d relation part (length (now values)) (length (now classes)) × InLevels d relation laid ⌝ }
+    requires { ⌜ Asking d order relation (now conditions) ⌝ }
+    ensures { λ r. ⌜ Filled (foundIn d relation (now (conditions .entry)) (stateOf d (holding (now (values .entry)) (now (classes .entry)))) laid) (now (shown .entry)) (now (owners .entry)) (now (shown .exit)) (now (owners .exit)) r ⌝ }
+{
+    let found = rows(values, classes, conditions, d, order, relation, part, laid);
+    let columns = part.columns;
+    if shown.len() < found as usize * columns {
+        return Answer::Refused(Fault::Short);
+    }
+    if owners.len() < found as usize * (columns + 1) {
+        return Answer::Refused(Fault::Short);
+    }
+    write(
+        values,
+        classes,
+        conditions,
+        shown,
+        owners,
+        d,
+        order,
+        relation,
+        part,
+        laid,
+    );
+    Answer::Done { count: found }
+}
+
+// Every AT level is seen, and then the rows.
 pub fn select(
     values: &[u32],
     classes: &[u8],
@@ -377,25 +376,8 @@ pub fn select(
     if !seen(list, description, order, subject) {
         return Answer::Refused(Fault::Unseen);
     }
-    let levels = lay(list, description, subject);
-    let found = rows(
-        values,
-        classes,
-        conditions,
-        description,
-        order,
-        relation,
-        part,
-        levels,
-    );
-    let columns = part.columns;
-    if shown.len() < found as usize * columns {
-        return Answer::Refused(Fault::Short);
-    }
-    if owners.len() < found as usize * (columns + 1) {
-        return Answer::Refused(Fault::Short);
-    }
-    write(
+    let laid = lay(list, description, subject);
+    fill(
         values,
         classes,
         conditions,
@@ -405,7 +387,6 @@ pub fn select(
         order,
         relation,
         part,
-        levels,
-    );
-    Answer::Done { count: found }
+        laid,
+    )
 }

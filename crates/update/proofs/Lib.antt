@@ -1,2 +1,3 @@
 pub mod Setting
+pub mod Settled
 pub mod Updated

@@ -1,32 +1,31 @@
 -- UPDATE: the plan that is made for it, its tests in their order, and the tables that it leaves.
 -- Assumes nothing.
-use Prim.Native.Nat.{ℕ, _+_, _≤_, _<_}
+use Prim.Native.Nat.{ℕ, _≤_, _<_}
 use mathlib.Core.Path.{_≡_, refl, sym, ap, ap₂, _∙_, fun-ext}
-use mathlib.Core.Bool.{Bool, true, false, not, _&&_, _||_}
-use mathlib.Core.List.{List, [], _∷_}
+use mathlib.Core.Bool.{Bool, true, false, not, _||_}
+use mathlib.Core.List.{List}
 use mathlib.Core.Logic.{_≢_}
-use mathlib.Core.Option.{Option, none, some}
+use mathlib.Core.Option.{none, some}
 use native.Mathlib.Omega.{arith}
 use lib.Dec.{eqb, ltb}
 use lib.ListN.{length, getD, replicate, getD-replicate, List·getD-eq-default}
-use borrow.Author.Tests.{eq-eqb, ne-eqb, eqb-true, ltb-true, ltb-false}
+use borrow.Author.Tests.{eq-eqb, eqb-true, ltb-true, ltb-false}
 use Rattle.bounded.specs.Tests.{if_then_else_}
 use Rattle.bounded.specs.Bounded.{firstBelow, allBelow, anyBelow, countBelow}
 use Rattle.bounded.proofs.All.{all-at}
 use Rattle.bounded.proofs.Any.{any-first}
 use Rattle.bounded.proofs.First.{first-holds}
-use Rattle.bounded.proofs.Cases.{cases, clash}
-use Rattle.bounded.proofs.Reflection.{is-true, is-false, of-true, of-false, bool-r, not-r, and-r, eqb-r}
+use Rattle.bounded.proofs.Cases.{cases}
+use Rattle.bounded.proofs.Reflection.{is-false, of-true, of-false, bool-r, not-r, and-r, eqb-r}
 use Rattle.model.specs.declared.Description.{Description}
-use Rattle.model.specs.declared.Fault.{Fault}
 use Rattle.model.specs.declared.Fault.the-variants as Faults
 use Rattle.model.specs.declared.Answer.the-variants as Answers
 use Rattle.model.specs.Description.{between, distinctBelow, isColumn, rowCount, columnCount, inRange}
-use Rattle.model.specs.Tables.{Cell, Row, State, Level, rowsOf, cell, nocell, seek}
+use Rattle.model.specs.Tables.{Cell, Row, State, Level, rowsOf}
 use Rattle.model.specs.Buffers.{stateOf}
 use Rattle.model.specs.Listed.{whole, pairs, columnAt, secondAt, each, listed, lists, columnsOnce}
 use Rattle.model.specs.Conditions.{met}
-use Rattle.model.specs.Effect.{Rows, Effect, Above, Change, keep, take}
+use Rattle.model.specs.Effect.{Rows, Effect, Above, Change}
 use Rattle.model.specs.Insert.{listedNames}
 use Rattle.model.specs.Update.{updateFormed, anyMet, updateTests, setIn, takeIn, updated}
 use Rattle.model.specs.Run.{left}
@@ -36,7 +35,7 @@ use Rattle.cells.specs.Changed.{holding, changeLevel}
 use Rattle.asked.specs.declared.pairs.Rule.the-variants as Rules
 use Rattle.asked.specs.Facts.{Marked, Counted, metAt, ruleOf}
 use Rattle.above.specs.declared.Plan.{Plan}
-use Rattle.above.specs.Facts.{markedAt, changeOf, aboveOf, carried, withRows, Planned}
+use Rattle.above.specs.Facts.{changeOf, aboveOf, carried, withRows, Planned}
 use Rattle.above.proofs.Carried.{carried-own}
 use Rattle.theory.proofs.Seen.{seen-own}
 use Rattle.change.specs.Facts.{Standing, Updates, refuses, does, sight, metRows, valueListed}

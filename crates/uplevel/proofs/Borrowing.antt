@@ -86,43 +86,44 @@ module _ (d : Description) (S : State) (r c k a v : ℕ) {f : ℕ} (F : f ≡ fo
 
 -- ---- a new cell
 
-module _ (d : Description) (c r : ℕ) (e : Cell) (list : List ℕ) (S : State) (k : ℕ) where
-  abbrev new : Cell
-  new = raised d (at d (rowsOf (seen d c S))) c r e list k
+-- own null, by its class
+null-is : (d : Description) (r k c : ℕ) {own : ℕ} → own ≡ ownNull d r k c .class → cell 0 own ≡ ownNull d r k c
+null-is d r k c x = cell-path (sym (null-value d r k c)) x
 
-  pub raised-key : k ≡ 1 → e ≡ new
+module _ (d : Description) (c r : ℕ) (e : Cell) (S : State) (k a : ℕ) (o : over d c c ≡ true) (s : over d c a ≡ true) {w : ℕ} (p : w ≡ lends (at d (rowsOf S) r a (e .value)) e k a .value)
+    {b : Bool} (q : b ≡ strayed d (at d (rowsOf S)) r c k a w) where
+  lent-is : lends (at d (rowsOf (seen d c S)) r a (e .value)) e k a ≡ cell w a
+  lent-is = rw (seen-at d S c r a (e .value) s) (cell-path (sym p) (lends-class _ e k a))
+
+  strayed-is : (eqb k (foreignOf d r) && (not (eqb w 0) && not (agrees d (at d (rowsOf (seen d c S))) r c a w))) ≡ b
+  unfolding strayed agrees
+  strayed-is = rw (seen-at d S c (refersOf d r) a w s, seen-at d S c (refersOf d r) c w o) (sym q)
+
+  taken-is : borrowed d (at d (rowsOf (seen d c S))) c r e k a ≡ (if b then ownNull d r k c else cell w a)
+  unfolding borrowed
+  taken-is = rw (lent-is, strayed-is)
+
+  pub taken-strayed : b ≡ true → {own : ℕ} → own ≡ ownNull d r k c .class → cell 0 own ≡ borrowed d (at d (rowsOf (seen d c S))) c r e k a
+  taken-strayed t x = null-is d r k c x ∙ sym (taken-is ∙ rw t)
+
+  pub taken-lent : b ≡ false → cell w a ≡ borrowed d (at d (rowsOf (seen d c S))) c r e k a
+  taken-lent t = sym (taken-is ∙ rw t)
+
+module _ (d : Description) (c r : ℕ) (e : Cell) (list : List ℕ) (W : Tables) (k : ℕ) where
+  pub raised-key : k ≡ 1 → e ≡ raised d W c r e list k
   unfolding raised
   raised-key p = rw p
 
-  module _ (n : k ≢ 1) {own : ℕ} (x : own ≡ ownNull d r k c .class) where
-    null-is : cell 0 own ≡ ownNull d r k c
-    null-is = cell-path (sym (null-value d r k c)) x
-
+  module _ (n : k ≢ 1) where
     abbrev taking : Option ℕ → Cell
-    taking o = elim o [ none ↦ ownNull d r k c | some a ↦ borrowed d (at d (rowsOf (seen d c S))) c r e k a ]
+    taking o = elim o [ none ↦ ownNull d r k c | some a ↦ borrowed d W c r e k a ]
 
-    raised-by : {o : Option ℕ} → listed list k ≡ o → new ≡ taking o
+    raised-by : {o : Option ℕ} → listed list k ≡ o → raised d W c r e list k ≡ taking o
     unfolding raised
     raised-by p = rw (ne-eqb k 1 n) (ap taking p)
 
-    pub raised-unlisted : listed list k ≡ none → cell 0 own ≡ new
-    raised-unlisted L = null-is ∙ sym (raised-by L)
+    pub raised-unlisted : listed list k ≡ none → {own : ℕ} → own ≡ ownNull d r k c .class → cell 0 own ≡ raised d W c r e list k
+    raised-unlisted L x = null-is d r k c x ∙ sym (raised-by L)
 
-    module _ {a : ℕ} (L : listed list k ≡ some a) (o : over d c c ≡ true) (s : over d c a ≡ true) {w : ℕ} (p : w ≡ lends (at d (rowsOf S) r a (e .value)) e k a .value)
-        {b : Bool} (q : b ≡ strayed d (at d (rowsOf S)) r c k a w) where
-      lent-is : lends (at d (rowsOf (seen d c S)) r a (e .value)) e k a ≡ cell w a
-      lent-is = rw (seen-at d S c r a (e .value) s) (cell-path (sym p) (lends-class _ e k a))
-
-      strayed-is : (eqb k (foreignOf d r) && (not (eqb w 0) && not (agrees d (at d (rowsOf (seen d c S))) r c a w))) ≡ b
-      unfolding strayed agrees
-      strayed-is = rw (seen-at d S c (refersOf d r) a w s, seen-at d S c (refersOf d r) c w o) (sym q)
-
-      taken-is : new ≡ (if b then ownNull d r k c else cell w a)
-      unfolding borrowed
-      taken-is = raised-by L ∙ rw (lent-is, strayed-is)
-
-      pub raised-strayed : b ≡ true → cell 0 own ≡ new
-      raised-strayed t = null-is ∙ sym (taken-is ∙ rw t)
-
-      pub raised-lent : b ≡ false → cell w a ≡ new
-      raised-lent t = sym (taken-is ∙ rw t)
+    pub raised-listed : {a : ℕ} → listed list k ≡ some a → {x : Cell} → x ≡ borrowed d W c r e k a → x ≡ raised d W c r e list k
+    raised-listed L p = p ∙ sym (raised-by L)

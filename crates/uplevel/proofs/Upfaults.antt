@@ -10,7 +10,7 @@ use native.Mathlib.Omega.{arith}
 use lib.Dec.{eqb, ltb, leb}
 use borrow.Author.Tests.{eq-eqb, ne-eqb, lt-ltb, le-ltb, ltb-true, ltb-false, le-leb, lt-leb}
 use Rattle.bounded.specs.Bounded.{firstBelow, countBelow}
-use Rattle.bounded.proofs.Cases.{cases, and-left}
+use Rattle.bounded.proofs.Cases.{cases, and-left, and-right}
 use Rattle.model.specs.declared.Description.{Description}
 use Rattle.model.specs.declared.Fault.{Fault}
 use Rattle.model.specs.declared.Fault.the-variants as Faults
@@ -27,8 +27,10 @@ use Rattle.cells.specs.Changed.{holding, keyPlace, entityPlace}
 use Rattle.asked.specs.declared.pairs.Rule.the-variants as Rules
 use Rattle.asked.specs.Facts.{ruleOf}
 use Rattle.theory.proofs.Seen.{seen-at, seen-own}
+use Rattle.uplevel.specs.declared.Test.{Test}
+use Rattle.uplevel.specs.declared.Test.the-variants as Tests
 use Rattle.change.specs.Facts.{Answered, refuses, does, sight, Uplevels}
-use Rattle.uplevel.specs.Raising.{laterTests, severalBased, entityTests, answerOf, spotOf}
+use Rattle.uplevel.specs.Raising.{classSeen, levelsSeen, laterTests, severalBased, entityTests, testOf, spotOf}
 use Rattle.change.proofs.Sought.{used-is}
 use Rattle.change.proofs.Answers.{first-fails, first-passes}
 use Rattle.uplevel.proofs.Entities.{entity-is}
@@ -110,59 +112,59 @@ module _ (d : Description) (vs cs : List ℕ) (c r key class : ℕ) (list : List
   full-test = rw (seen-at d S c r c key o, seen-own d S c o, ← (entity-is d vs cs r c key class nz e)) (sym (spot-room d r here (S c .rows)))
 
   module _ {a : Bool} (x : a ≡ (not (ltb here (rowCount d r)) && ltb (keyPlace d vs r c key) (rowCount d r))) where
-    pub taken-answer : a ≡ true → Answers.Refused Faults.Taken ≡ answerOf (firstFault tests)
-    unfolding laterTests answerOf
-    taken-answer t = sym (ap answerOf (first-fails Faults.Taken _ (taken-test ∙ rw (← x, t))))
+    pub taken-ends : a ≡ true → Tests.Failed Faults.Taken ≡ testOf (firstFault tests)
+    unfolding laterTests testOf
+    taken-ends t = sym (ap testOf (first-fails Faults.Taken _ (taken-test ∙ rw (← x, t))))
 
     module _ (t : a ≡ false) {b : Bool} (y : b ≡ each (ruleOf d r (Rules.Above class)) list) where
       past-taken : firstFault tests ≡ firstFault ((b, Faults.KeyClass) ∷ (borrowedNames d c r (cell key class) list (rowsOf (seen d c S)), Faults.Reference) ∷ (ltb (spotOf d r here (S c .rows)) (rowCount d r), Faults.Full) ∷ [])
       unfolding laterTests ruleOf
       past-taken = first-passes Faults.Taken _ (taken-test ∙ rw (← x, t)) ∙ rw (y, full-test)
 
-      pub class-answer : b ≡ false → Answers.Refused Faults.KeyClass ≡ answerOf (firstFault tests)
-      unfolding answerOf
-      class-answer u = sym (ap answerOf (past-taken ∙ first-fails Faults.KeyClass _ u))
+      pub class-ends : b ≡ false → Tests.Failed Faults.KeyClass ≡ testOf (firstFault tests)
+      unfolding testOf
+      class-ends u = sym (ap testOf (past-taken ∙ first-fails Faults.KeyClass _ u))
 
       module _ (u : b ≡ true) {q : Bool} (z : q ≡ borrowedNames d c r (cell key class) list (rowsOf (seen d c S))) where
-        pub reference-answer : q ≡ false → Answers.Refused Faults.Reference ≡ answerOf (firstFault tests)
-        unfolding answerOf
-        reference-answer v = sym (ap answerOf (past-taken ∙ first-passes Faults.KeyClass _ u ∙ first-fails Faults.Reference _ (sym z ∙ v)))
+        pub reference-ends : q ≡ false → Tests.Failed Faults.Reference ≡ testOf (firstFault tests)
+        unfolding testOf
+        reference-ends v = sym (ap testOf (past-taken ∙ first-passes Faults.KeyClass _ u ∙ first-fails Faults.Reference _ (sym z ∙ v)))
 
         module _ (v : q ≡ true) {i : ℕ} (w : i ≡ spotOf d r here (S c .rows)) where
           past-names : firstFault tests ≡ firstFault ((ltb i (rowCount d r), Faults.Full) ∷ [])
           past-names = past-taken ∙ first-passes Faults.KeyClass _ u ∙ first-passes Faults.Reference _ (sym z ∙ v) ∙ rw w
 
-          pub full-answer : rowCount d r ≤ i → Answers.Refused Faults.Full ≡ answerOf (firstFault tests)
-          unfolding answerOf
-          full-answer h = sym (ap answerOf (past-names ∙ first-fails Faults.Full _ (le-ltb i (rowCount d r) h)))
+          pub full-ends : rowCount d r ≤ i → Tests.Failed Faults.Full ≡ testOf (firstFault tests)
+          unfolding testOf
+          full-ends h = sym (ap testOf (past-names ∙ first-fails Faults.Full _ (le-ltb i (rowCount d r) h)))
 
-          pub done-answer : i < rowCount d r → Answers.Done 1 ≡ answerOf (firstFault tests)
-          unfolding answerOf firstFault
-          done-answer h = sym (ap answerOf (past-names ∙ first-passes Faults.Full [] (lt-ltb i (rowCount d r) h)))
+          pub passed-ends : i < rowCount d r → Tests.Passed ≡ testOf (firstFault tests)
+          unfolding testOf firstFault
+          passed-ends h = sym (ap testOf (past-names ∙ first-passes Faults.Full [] (lt-ltb i (rowCount d r) h)))
 
   -- where no test fails there is a place
   pub room : firstFault tests ≡ none → spotOf d r here (S c .rows) < rowCount d r
   unfolding laterTests
   room n = ltb-true _ _ (sym full-test ∙ last-passes _ _ _ _ n)
 
--- ---- what is answered
+-- ---- how tests end
 
-module _ {o : Option Fault} {a : Answer} (e : a ≡ answerOf o) where
-  pub refused-by : {f : Fault} → a ≡ Answers.Refused f → o ≡ some f
-  unfolding answerOf
-  refused-by {f} p = go o (sym e ∙ p)
+module _ {o : Option Fault} {a : Test} (e : a ≡ testOf o) where
+  pub failed-by : {f : Fault} → a ≡ Tests.Failed f → o ≡ some f
+  unfolding testOf
+  failed-by {f} p = go o (sym e ∙ p)
     where
-      go : (o : Option Fault) → answerOf o ≡ Answers.Refused f → o ≡ some f
+      go : (o : Option Fault) → testOf o ≡ Tests.Failed f → o ≡ some f
       go none q = cc
       go (some g) q = cc
 
-  pub done-by : {n : ℕ} → a ≡ Answers.Done n → (o ≡ none) × (n ≡ 1)
-  unfolding answerOf
-  done-by {n} p = go o (sym e ∙ p)
+  pub passed-by : a ≡ Tests.Passed → o ≡ none
+  unfolding testOf
+  passed-by p = go o (sym e ∙ p)
     where
-      go : (o : Option Fault) → answerOf o ≡ Answers.Done n → (o ≡ none) × (n ≡ 1)
-      go none q = (refl, cc)
-      go (some g) q = (cc, cc)
+      go : (o : Option Fault) → testOf o ≡ Tests.Passed → o ≡ none
+      go none q = refl
+      go (some g) q = cc
 
 -- one test before others
 module _ {d : Description} {c n : ℕ} {E : Effect} {vs cs : List ℕ} (f : Fault) (ts : List (Bool × Fault)) {b : Bool} where
@@ -209,47 +211,54 @@ either true true = refl
 either true false = refl
 either false b = refl
 
--- the subject sees every FROM level
-pub from-sees : (d : Description) (c r : ℕ) (list : List ℕ) {b : Bool} → b ≡ each (ruleOf d r (Rules.Below c)) list → b ≡ true → each (λ k a. over d c a) list ≡ true
-unfolding ruleOf
-from-sees d c r list y u = sym y ∙ u
+-- what the subject sees of the levels that are named
+module _ (d : Description) (c class : ℕ) where
+  pub class-free : class ≡ 255 → true ≡ classSeen d c class
+  unfolding classSeen
+  class-free e = rw (eq-eqb class 255 e)
+
+  pub class-given : class ≢ 255 → {b : Bool} → b ≡ over d c class → b ≡ classSeen d c class
+  unfolding classSeen
+  class-given n x = rw (ne-eqb class 255 n) x
+
+  module _ (list : List ℕ) where
+    pub class-unseen : {b : Bool} → b ≡ classSeen d c class → b ≡ false → false ≡ levelsSeen d c class list
+    unfolding levelsSeen
+    class-unseen x t = rw (← x, t)
+
+    pub levels-seen : (r : ℕ) {a b : Bool} → a ≡ classSeen d c class → a ≡ true → b ≡ each (ruleOf d r (Rules.Below c)) list → b ≡ levelsSeen d c class list
+    unfolding levelsSeen ruleOf
+    levels-seen r x t y = rw (← x, t) y
+
+    pub from-sees : {b : Bool} → b ≡ levelsSeen d c class list → b ≡ true → each (λ k a. over d c a) list ≡ true
+    unfolding levelsSeen
+    from-sees y u = and-right (classSeen d c class) _ (sym y ∙ u)
 
 tests-are : (d : Description) (c r key class : ℕ) (list : List ℕ) (S : State)
-    → uplevelTests d c r key class list S ≡ (((eqb class 255 || over d c class) && each (λ k a. over d c a) list, Faults.Unseen)
+    → uplevelTests d c r key class list S ≡ ((levelsSeen d c class list, Faults.Unseen)
     ∷ (each (λ k a. inRange d r k a) list, Faults.Range) ∷ entityTests d c r class (entityOf d c r key class (rowsOf S)) list S)
-unfolding uplevelTests entityTests laterTests severalBased entityOf
+unfolding uplevelTests classSeen levelsSeen entityTests laterTests severalBased entityOf
 tests-are d c r key class list S = rw (either (eqb class 255) (leb (countBelow (d .levels) (based d c r key (rowsOf S))) 1))
 
-module _ (d : Description) (c r key class : ℕ) (list vs cs : List ℕ) {g : Bool} (x : g ≡ (eqb class 255 || over d c class)) where
+module _ (d : Description) (c r key class : ℕ) (list vs cs : List ℕ) {b : Bool} (x : b ≡ levelsSeen d c class list) where
   abbrev T : State
   T = sight d c vs cs
 
-  pub class-unseen : g ≡ false → Uplevels d c r key class list vs cs vs cs (Answers.Refused Faults.Unseen)
-  class-unseen t = rw (tests-are d c r key class list T) (test-fails Faults.Unseen _ (rw (← x, t)))
+  pub unseen-answer : b ≡ false → Uplevels d c r key class list vs cs vs cs (Answers.Refused Faults.Unseen)
+  unseen-answer t = rw (tests-are d c r key class list T) (test-fails Faults.Unseen _ (sym x ∙ t))
 
-  module _ (t : g ≡ true) {b : Bool} (y : b ≡ each (ruleOf d r (Rules.Below c)) list) where
-    seen-is : ((eqb class 255 || over d c class) && each (λ k a. over d c a) list) ≡ b
+  module _ (t : b ≡ true) {h : Bool} (y : h ≡ each (ruleOf d r Rules.Lends) list) where
+    range-is : each (λ k a. inRange d r k a) list ≡ h
     unfolding ruleOf
-    seen-is = rw (← x, t) (sym y)
+    range-is = sym y
 
-    pub from-unseen : b ≡ false → Uplevels d c r key class list vs cs vs cs (Answers.Refused Faults.Unseen)
-    from-unseen u = rw (tests-are d c r key class list T) (test-fails Faults.Unseen _ (seen-is ∙ u))
+    pub range-answer : h ≡ false → Uplevels d c r key class list vs cs vs cs (Answers.Refused Faults.Range)
+    range-answer u = rw (tests-are d c r key class list T) (test-passes Faults.Unseen _ (sym x ∙ t) (test-fails Faults.Range _ (range-is ∙ u)))
 
-    module _ (u : b ≡ true) {h : Bool} (z : h ≡ each (ruleOf d r Rules.Lends) list) where
-      range-is : each (λ k a. inRange d r k a) list ≡ h
-      unfolding ruleOf
-      range-is = sym z
+    entity-answer : {vs′ cs′ : List ℕ} {a : Answer} → h ≡ true → (e : Cell) → entityOf d c r key class (rowsOf T) ≡ e
+        → Answered d c (entityTests d c r class e list T) 1 (uplevelled d c r e list (rowsOf T)) vs cs vs′ cs′ a → Uplevels d c r key class list vs cs vs′ cs′ a
+    entity-answer u e q A = rw (tests-are d c r key class list T, q) (test-passes Faults.Unseen _ (sym x ∙ t) (test-passes Faults.Range _ (range-is ∙ u) A))
 
-      pub range-answer : h ≡ false → Uplevels d c r key class list vs cs vs cs (Answers.Refused Faults.Range)
-      range-answer v = rw (tests-are d c r key class list T) (test-passes Faults.Unseen _ (seen-is ∙ u) (test-fails Faults.Range _ (range-is ∙ v)))
-
-      entity-answer : {vs′ cs′ : List ℕ} {a : Answer} → h ≡ true → (e : Cell) → entityOf d c r key class (rowsOf T) ≡ e
-          → Answered d c (entityTests d c r class e list T) 1 (uplevelled d c r e list (rowsOf T)) vs cs vs′ cs′ a → Uplevels d c r key class list vs cs vs′ cs′ a
-      entity-answer v e q A = rw (tests-are d c r key class list T, q) (test-passes Faults.Unseen _ (seen-is ∙ u) (test-passes Faults.Range _ (range-is ∙ v) A))
-
-      pub admitted-answer : h ≡ true → {own : ℕ} → own ≡ entityOf d c r key class (rowsOf T) .class → {vs′ cs′ : List ℕ} {a : Answer}
-          → Answered d c (entityTests d c r class (cell key own) list T) 1 (uplevelled d c r (cell key own) list (rowsOf T)) vs cs vs′ cs′ a → Uplevels d c r key class list vs cs vs′ cs′ a
-      admitted-answer v {own} q A = entity-answer v (cell key own) (keyed ∙ ap (cell key) (sym q)) A
-        where
-          keyed : entityOf d c r key class (rowsOf T) ≡ cell key (entityOf d c r key class (rowsOf T) .class)
-          keyed = key-kept d c r key class (rowsOf T)
+    pub admitted-answer : h ≡ true → {own : ℕ} → own ≡ entityOf d c r key class (rowsOf T) .class → {vs′ cs′ : List ℕ} {a : Answer}
+        → Answered d c (entityTests d c r class (cell key own) list T) 1 (uplevelled d c r (cell key own) list (rowsOf T)) vs cs vs′ cs′ a → Uplevels d c r key class list vs cs vs′ cs′ a
+    admitted-answer u {own} q A = entity-answer u (cell key own) (key-kept d c r key class (rowsOf T) ∙ ap (cell key) (sym q)) A

@@ -13,8 +13,6 @@ use Rattle.bounded.specs.Bounded.{countBelow}
 use Rattle.model.specs.declared.Description.{Description}
 use Rattle.model.specs.declared.Fault.{Fault}
 use Rattle.model.specs.declared.Fault.the-variants as Faults
-use Rattle.model.specs.declared.Answer.{Answer}
-use Rattle.model.specs.declared.Answer.the-variants as Answers
 use Rattle.model.specs.Description.{isLevel, over, isRelation, isColumn, rowCount, columnCount, foreignOf, totalOf, sound}
 use Rattle.model.specs.Tables.{Cell, Tables, State, rowsOf, same, used, at}
 use Rattle.model.specs.Listed.{each}
@@ -24,6 +22,8 @@ use Rattle.cells.specs.declared.layout.Part.{Part}
 use Rattle.cells.specs.Layout.{Laid}
 use Rattle.above.specs.declared.Plan.{Plan}
 use Rattle.uplevel.specs.declared.News.{News}
+use Rattle.uplevel.specs.declared.Test.{Test}
+use Rattle.uplevel.specs.declared.Test.the-variants as Tests
 use Rattle.change.specs.Facts.{Filled}
 
 -- ---- what is known
@@ -46,6 +46,14 @@ pub record Raising (d : Description) (r c : ℕ) (p : Part) (key : ℕ) (list : 
 
 -- ---- the tests
 
+-- no key class is given, or the subject sees it
+unfoldable pub classSeen : Description → ℕ → ℕ → Bool
+classSeen d c class = eqb class 255 || over d c class
+
+-- and every FROM level
+unfoldable pub levelsSeen : Description → ℕ → ℕ → List ℕ → Bool
+levelsSeen d c class list = classSeen d c class && each (λ k a. over d c a) list
+
 -- the tests after an entity is looked for: whether it is there, whether it is the only one, and the others
 unfoldable pub laterTests : Description → ℕ → ℕ → Cell → List ℕ → State → List (Bool × Fault)
 laterTests d c r entity list S =
@@ -66,10 +74,10 @@ entityTests d c r class entity list S =
     ∷ (not (severalBased d c r (entity .value) class (rowsOf S)), Faults.Several)
     ∷ laterTests d c r entity list S
 
--- what is answered where that is the first fault
-unfoldable pub answerOf : Option Fault → Answer
-answerOf none = Answers.Done 1
-answerOf (some f) = Answers.Refused f
+-- how tests end of which that is the first that fails
+unfoldable pub testOf : Option Fault → Test
+testOf none = Tests.Passed
+testOf (some f) = Tests.Failed f
 
 -- ---- the new row
 

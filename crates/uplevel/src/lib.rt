@@ -20,25 +20,25 @@ use model::Answer;
 use model::Description;
 use model::Fault;
 ghost use mathlib.Core.Path.{_≡_};
-ghost use mathlib.Core.Bool.{true, false, not, _&&_, _||_};
+ghost use mathlib.Core.Bool.{true, false, not, _&&_};
 ghost use mathlib.Core.Logic.{_≢_};
-ghost use mathlib.Core.List.{List};
 ghost use mathlib.Core.Option.{some};
-ghost use lib.Dec.{eqb, ltb};
+ghost use lib.Dec.{ltb};
 ghost use lib.ListN.{length, set, replicate};
 ghost use Prim.Native.Nat.{_<_};
 ghost use Rattle.bounded.specs.Bounded.{firstBelow, countBelow};
 ghost use Rattle.model.specs.Description.{isColumn, rowCount, columnCount, over as overOf};
 ghost use Rattle.model.specs.Tables.{cell, at, lends, rowsOf};
 ghost use Rattle.model.specs.Buffers.{stateOf};
-ghost use Rattle.model.specs.Uplevel.{uplevelFormed, based as basedOf, entityOf, borrowedNames, raised, uplevelled};
+ghost use Rattle.model.specs.declared.Answer.the-variants.{Done};
+ghost use Rattle.model.specs.Uplevel.{uplevelFormed, based as basedOf, entityOf, borrowedNames, borrowed as borrowedOf, raised, uplevelled};
 ghost use Rattle.model.specs.Run.{firstFault, left};
 ghost use Rattle.cells.specs.Layout.{Sized, Lent, InLevel, Row};
 ghost use Rattle.cells.specs.Changed.{holding, keyPlace, entityPlace, listedRow, withRow, changeLevel};
 ghost use Rattle.asked.specs.Facts.{Ordered, Related};
 ghost use Rattle.above.specs.Facts.{Reaching, carried};
 ghost use Rattle.change.specs.Facts.{Standing, sight, Answered, Uplevels};
-ghost use Rattle.uplevel.specs.Raising.{Listing, Raising, Composed, laterTests, entityTests, severalBased, answerOf, strayed, spotOf, planOf};
+ghost use Rattle.uplevel.specs.Raising.{Listing, Raising, Composed, classSeen, levelsSeen, laterTests, entityTests, severalBased, testOf, strayed, spotOf, planOf};
 
 // A cell that an UPLEVEL makes.
 struct New {
@@ -50,6 +50,12 @@ struct New {
 struct News {
     values: [u32; 9],
     classes: [u8; 9],
+}
+
+// How its tests end.
+enum Test {
+    Passed,
+    Failed(Fault),
 }
 
 // ---- whether it is well formed
@@ -332,7 +338,59 @@ fn strays(
     )
 }
 
-// A new cell: the key, what the FROM level lends, or own null.
+// What a new cell borrows: the lender's, or own null where a reference strays.
+fn take(
+    values: &[u32],
+    classes: &[u8],
+    description: Description,
+    order: [[bool; 16]; 16],
+    relation: usize,
+    part: Part,
+    subject: usize,
+    key: u32,
+    class: u8,
+    column: usize,
+    from: usize,
+) -> New
+    requires { ⌜ Standing description order relation subject part (now values) (now classes) × (isColumn description relation column ≡ true) ⌝ }
+    requires { ⌜ (key ≢ 0) × (overOf description subject from ≡ true) ⌝ }
+    ensures { λ r. ⌜ cell (r .value) (r .class) ≡ borrowedOf description (at description (rowsOf (sight description subject (now (values .entry)) (now (classes .entry))))) subject relation (cell key class) column from ⌝ }
+{
+    let value = lent(
+        values,
+        classes,
+        description,
+        relation,
+        part,
+        from,
+        key,
+        class,
+        column,
+    );
+    if strays(
+        values,
+        classes,
+        description,
+        relation,
+        column,
+        subject,
+        from,
+        value,
+    ) {
+        let columns = part.columns;
+        let own = null(description, order, relation, columns, column, subject as u8);
+        return New {
+            value: 0,
+            class: own,
+        };
+    }
+    New {
+        value: value,
+        class: from as u8,
+    }
+}
+
+// A new cell: the key, what is borrowed, or own null.
 fn borrow(
     values: &[u32],
     classes: &[u8],
@@ -356,46 +414,29 @@ fn borrow(
             class: class,
         };
     }
-    let columns = part.columns;
-    let own = null(description, order, relation, columns, column, subject as u8);
     let at = find(list, column);
     if list.len() / 2 <= at {
+        let columns = part.columns;
+        let own = null(description, order, relation, columns, column, subject as u8);
         return New {
             value: 0,
             class: own,
         };
     }
     let from = list[2 * at + 1] as usize;
-    let value = lent(
+    take(
         values,
         classes,
         description,
+        order,
         relation,
         part,
-        from,
+        subject,
         key,
         class,
         column,
-    );
-    if strays(
-        values,
-        classes,
-        description,
-        relation,
-        column,
-        subject,
         from,
-        value,
-    ) {
-        return New {
-            value: 0,
-            class: own,
-        };
-    }
-    New {
-        value: value,
-        class: from as u8,
-    }
+    )
 }
 
 // The new row.
@@ -537,13 +578,13 @@ fn check(
     key: u32,
     class: usize,
     here: usize,
-) -> Answer
+) -> Test
     requires { ⌜ Standing description order relation subject part (now values) (now classes) × Listing description relation subject key (now list) ⌝ }
     requires { ⌜ (overOf description subject class ≡ true) × Row description relation (entityPlace description (now values) (now classes) relation subject key class) here ⌝ }
-    ensures { λ r. ⌜ r ≡ answerOf (firstFault (laterTests description subject relation (cell key class) (now (list .entry)) (sight description subject (now (values .entry)) (now (classes .entry))))) ⌝ }
+    ensures { λ r. ⌜ r ≡ testOf (firstFault (laterTests description subject relation (cell key class) (now (list .entry)) (sight description subject (now (values .entry)) (now (classes .entry))))) ⌝ }
 {
     if taken(values, description, relation, part, subject, key, here) {
-        return Answer::Refused(Fault::Taken);
+        return Test::Failed(Fault::Taken);
     }
     let columns = part.columns;
     if !each(
@@ -554,7 +595,7 @@ fn check(
         columns,
         Rule::Above { level: class },
     ) {
-        return Answer::Refused(Fault::KeyClass);
+        return Test::Failed(Fault::KeyClass);
     }
     if !borrowed(
         values,
@@ -567,13 +608,13 @@ fn check(
         key,
         class as u8,
     ) {
-        return Answer::Refused(Fault::Reference);
+        return Test::Failed(Fault::Reference);
     }
     let row = spot(values, classes, description, relation, part, subject, here);
     if part.rows <= row {
-        return Answer::Refused(Fault::Full);
+        return Test::Failed(Fault::Full);
     }
-    Answer::Done { count: 1 }
+    Test::Passed
 }
 
 // ---- the effect
@@ -638,7 +679,7 @@ fn write(
     );
 }
 
-// The new row replaces the entity's row, which is row `here`, or takes the lowest empty one.
+// The new row replaces the entity's row, which is row `here`, or takes the lowest empty one, and is counted.
 fn place(
     values: &mut [u32],
     classes: &mut [u8],
@@ -651,10 +692,10 @@ fn place(
     key: u32,
     class: u8,
     here: usize,
-)
+) -> Answer
     requires { ⌜ Standing description order relation subject part (now values) (now classes) × Listing description relation subject key (now list) ⌝ }
     requires { ⌜ Row description relation (entityPlace description (now values) (now classes) relation subject key class) here × (spotOf description relation here (stateOf description (holding (now values) (now classes)) subject .rows) < rowCount description relation) ⌝ }
-    ensures { λ _. ⌜ stateOf description (holding (now (values .exit)) (now (classes .exit))) ≡ left description subject (some (uplevelled description subject relation (cell key class) (now (list .entry)) (rowsOf (sight description subject (now (values .entry)) (now (classes .entry)))))) (stateOf description (holding (now (values .entry)) (now (classes .entry)))) ⌝ }
+    ensures { λ r. ⌜ (r ≡ Done 1) × (stateOf description (holding (now (values .exit)) (now (classes .exit))) ≡ left description subject (some (uplevelled description subject relation (cell key class) (now (list .entry)) (rowsOf (sight description subject (now (values .entry)) (now (classes .entry)))))) (stateOf description (holding (now (values .entry)) (now (classes .entry))))) ⌝ }
 {
     let row = spot(values, classes, description, relation, part, subject, here);
     let there = here < part.rows;
@@ -682,6 +723,7 @@ fn place(
         there,
         news,
     );
+    Answer::Done { count: 1 }
 }
 
 // ---- the statement
@@ -703,7 +745,6 @@ fn raise(
     requires { ⌜ overOf description subject class ≡ true ⌝ }
     ensures { λ r. ⌜ Answered description subject (laterTests description subject relation (cell key class) (now (list .entry)) (sight description subject (now (values .entry)) (now (classes .entry)))) 1 (uplevelled description subject relation (cell key class) (now (list .entry)) (rowsOf (sight description subject (now (values .entry)) (now (classes .entry))))) (now (values .entry)) (now (classes .entry)) (now (values .exit)) (now (classes .exit)) r ⌝ }
 {
-    let own = class as u8;
     let here = entity(
         values,
         classes,
@@ -712,9 +753,9 @@ fn raise(
         part,
         subject,
         key,
-        own,
+        class as u8,
     );
-    let answer = check(
+    let test = check(
         values,
         classes,
         list,
@@ -727,24 +768,21 @@ fn raise(
         class,
         here,
     );
-    match answer {
-        Answer::Refused(fault) => Answer::Refused(fault),
-        Answer::Done { count } => {
-            place(
-                values,
-                classes,
-                list,
-                description,
-                order,
-                relation,
-                part,
-                subject,
-                key,
-                own,
-                here,
-            );
-            Answer::Done { count: count }
-        }
+    match test {
+        Test::Failed(fault) => Answer::Refused(fault),
+        Test::Passed => place(
+            values,
+            classes,
+            list,
+            description,
+            order,
+            relation,
+            part,
+            subject,
+            key,
+            class as u8,
+            here,
+        ),
     }
 }
 
@@ -809,12 +847,39 @@ fn admit(
 // Whether no key class is given, or the subject sees it.
 fn sees(description: Description, order: [[bool; 16]; 16], subject: usize, class: usize) -> bool
     requires { ⌜ Ordered description order ⌝ }
-    ensures { λ r. ⌜ r ≡ (eqb class 255 || overOf description subject class) ⌝ }
+    ensures { λ r. ⌜ r ≡ classSeen description subject class ⌝ }
 {
     if class == 255 {
         return true;
     }
     over(description, order, subject, class)
+}
+
+// Whether the subject sees the key class that is given and every FROM level.
+fn seen(
+    list: &[u32],
+    description: Description,
+    order: [[bool; 16]; 16],
+    relation: usize,
+    columns: usize,
+    subject: usize,
+    class: usize,
+) -> bool
+    requires { ⌜ Ordered description order ⌝ }
+    requires { ⌜ Related description relation columns ⌝ }
+    ensures { λ r. ⌜ r ≡ levelsSeen description subject class (now (list .entry)) ⌝ }
+{
+    if !sees(description, order, subject, class) {
+        return false;
+    }
+    each(
+        list,
+        description,
+        order,
+        relation,
+        columns,
+        Rule::Below { level: subject },
+    )
 }
 
 // The tests of the levels that are named, in their order, and then the others.
@@ -834,18 +899,8 @@ pub fn uplevel(
     requires { ⌜ uplevelFormed description relation key class (now list) ≡ true ⌝ }
     ensures { λ r. ⌜ Uplevels description subject relation key class (now (list .entry)) (now (values .entry)) (now (classes .entry)) (now (values .exit)) (now (classes .exit)) r ⌝ }
 {
-    if !sees(description, order, subject, class) {
-        return Answer::Refused(Fault::Unseen);
-    }
     let columns = part.columns;
-    if !each(
-        list,
-        description,
-        order,
-        relation,
-        columns,
-        Rule::Below { level: subject },
-    ) {
+    if !seen(list, description, order, relation, columns, subject, class) {
         return Answer::Refused(Fault::Unseen);
     }
     if !each(list, description, order, relation, columns, Rule::Lends) {

@@ -4,61 +4,45 @@ use Rattle.delete.proofs.Deleted.{delete-referred, delete-done}
 use borrow.Author.Needs.{needs}
 use Rattle.delete.proofs.delete.Statement.{statement}
 use Rattle.delete.proofs.delete.Tie as tie
-use Rattle.delete.proofs.delete.Reads as reads
-use Rattle.delete.proofs.delete.Lts as lts
-use Rattle.asked.proofs.conditions.count.Reads as count-reads
-use Rattle.asked.proofs.conditions.marks.Reads as marks-reads
-use Rattle.delete.proofs.referred.Reads as referred-reads
-use Rattle.delete.proofs.write.Reads as write-reads
 
--- src/delete.rt:214:9
 marks-requires : tie.Need-marks-requires
 marks-requires c κs =
     let s = c .before .before .before .before .before in
     let k = s .pre .0 in
     ((lent k, own-level k), record { ordered = ordered k; formed = s .pre .1 })
 
--- src/delete.rt:224:8
 referred-requires : tie.Need-referred-requires
 referred-requires c κs =
     let k = c .before .before .before .before .before .before .before .pre .0 in
     ((sized k, own-level k), naming k)
 
--- src/delete.rt:225:9
 same-length : tie.Need-same-length
 same-length c = search needs
 
--- src/delete.rt:225:9
 same-length-2 : tie.Need-same-length-2
 same-length-2 c = search needs
 
--- src/delete.rt:225:9
 returns : tie.Need-returns
 returns c =
     let m = c .before .before .before in
     let s = m .before .before .before .before .before .before in
     delete-referred (s .pre .0) _ (m .marks .ensures) (c .before .referred .ensures) (c .if1 .taken)
 
--- src/delete.rt:227:9
 count-requires : tie.Need-count-requires
 count-requires c κs = search needs
 
--- src/delete.rt:228:5
 write-requires : tie.Need-write-requires
 write-requires c κs =
     let m = c .before .before .before .before .before .before in
     let s = m .before .before .before .before .before .before in
     (s .pre .0, chosen _ _ _ _ _ (m .marks .ensures))
 
--- src/delete.rt:200:1
 same-length-3 : tie.Need-same-length-3
 same-length-3 c = search needs
 
--- src/delete.rt:200:1
 same-length-4 : tie.Need-same-length-4
 same-length-4 c = search needs
 
--- src/delete.rt:200:1
 returns-2 : tie.Need-returns-2
 returns-2 c =
     let w = c .before .before .before .before in

@@ -1,9 +1,9 @@
+-- The invariant: no row of a relation that was passed refers to a marked one.
 use Prim.Native.Nat.{_+_, _-_, _≤_, _<_}
 use mathlib.Core.Path.{_≡_}
 use mathlib.Core.Bool.{false}
 use native.Mathlib.Omega.{arith}
 use borrow.Author.Needs.{needs}
-use borrow.Author.Tests.{not-true, not-false}
 use Rattle.bounded.specs.Bounded.{anyBelow}
 use Rattle.bounded.proofs.Any.{any-more}
 use Rattle.bounded.proofs.Reflection.{is-true}
@@ -13,9 +13,6 @@ use Rattle.change.proofs.Known.{sounds, relation-some}
 use Rattle.delete.proofs.Emptying.{referred-start, referred-here, referred-none}
 use Rattle.delete.proofs.referred.Statement.{statement}
 use Rattle.delete.proofs.referred.Tie as tie
-use Rattle.delete.proofs.referred.Reads as reads
-use Rattle.delete.proofs.referred.Lts as lts
-use Rattle.delete.proofs.refers.Reads as refers-reads
 
 abbrev Inv-loop : tie.InvT-loop
 Inv-loop values description relation part marks level relations at₀ at = (0 < at) × (at ≤ relations + 1) × (anyBelow at (refersMarked description values marks relation level) ≡ false)
@@ -23,15 +20,12 @@ Inv-loop values description relation part marks level relations at₀ at = (0 < 
 abbrev μ-loop : tie.MeasureT-loop
 μ-loop values description relation part marks level relations at₀ at = relations + 1 - at
 
--- src/delete.rt:88:21
 cast-relations : tie.Need-cast-relations Inv-loop μ-loop
 cast-relations c = search needs
 
--- src/delete.rt:90:5
 loop-holds : tie.Need-loop-holds Inv-loop μ-loop
 loop-holds c = (omega arith, omega arith, referred-start _ _ _ _ _)
 
--- src/delete.rt:91:12
 refers-requires : tie.Need-refers-requires Inv-loop μ-loop
 refers-requires c κs =
     let s = c .before .before .before .before in
@@ -43,27 +37,22 @@ refers-requires c κs =
       ),
     )
 
--- src/delete.rt:92:13
 returns : tie.Need-returns Inv-loop μ-loop
 returns c = referred-here _ _ _ _ _ _ (c .before .refers .ensures) (c .if1 .taken) (c .before .before .loop-test .taken)
 
--- src/delete.rt:94:9
 add-at : tie.Need-add-at Inv-loop μ-loop
 add-at c =
     let s = c .before .before .before .before .before .before in
     omega (arith, c .before .before .loop-test .taken, sounds _ _ (s .pre .1 .sound-is) (s .pre .1 .relation) .few-relations)
 
--- src/delete.rt:90:5
 loop-less : tie.Need-loop-less Inv-loop μ-loop
 loop-less c = omega arith
 
--- src/delete.rt:90:5
 loop-again : tie.Need-loop-again Inv-loop μ-loop
 loop-again c =
     let l = c .before .before .before .loop in
     (omega arith, omega arith, any-more (l .at) _ (l .inv .2) (c .before .refers .ensures) (c .if1 .left))
 
--- src/delete.rt:76:1
 returns-2 : tie.Need-returns-2 Inv-loop μ-loop
 returns-2 c =
     let l = c .before .loop in

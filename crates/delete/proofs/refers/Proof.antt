@@ -1,3 +1,4 @@
+-- The invariant: no row that was passed refers to a marked one.
 use Prim.Native.Nat.{_-_, _≤_}
 use mathlib.Core.Path.{_≡_, sym, _∙_}
 use mathlib.Core.Bool.{false}
@@ -10,11 +11,6 @@ use Rattle.change.proofs.Known.{relation-few, foreign-is, refers-is}
 use Rattle.delete.proofs.Emptying.{refers-other, row-refers, refers-here, refers-none, reference-inside}
 use Rattle.delete.proofs.refers.Statement.{statement}
 use Rattle.delete.proofs.refers.Tie as tie
-use Rattle.delete.proofs.refers.Reads as reads
-use Rattle.delete.proofs.refers.Lts as lts
-use Rattle.cells.proofs.layout.lay.Reads as lay-reads
-use Rattle.cells.proofs.read.value_at.Reads as value-at-reads
-use Rattle.delete.proofs.names.Reads as names-reads
 
 abbrev Inv-loop : tie.InvT-loop
 Inv-loop values referrer relation part marks level description place column rows row₀ row = (row ≤ rows) × (anyBelow row (rowRefers description values marks relation level referrer) ≡ false)
@@ -22,45 +18,35 @@ Inv-loop values referrer relation part marks level description place column rows
 abbrev μ-loop : tie.MeasureT-loop
 μ-loop values referrer relation part marks level description place column rows row₀ row = rows - row
 
--- src/delete.rt:34:8
 mul-if1 : tie.Need-mul-if1 Inv-loop μ-loop
 mul-if1 c = let s = c .before in omega (arith, relation-few _ _ (s .pre .1 .0 .sound-is) (s .pre .1 .0 .relation))
 
--- src/delete.rt:34:8
 element-copy-out-if1 : tie.Need-element-copy-out-if1 Inv-loop μ-loop
 element-copy-out-if1 c = let s = c .before in omega (arith, relation-few _ _ (s .pre .1 .0 .sound-is) (s .pre .1 .0 .relation))
 
--- src/delete.rt:34:8
 cast-if1 : tie.Need-cast-if1 Inv-loop μ-loop
 cast-if1 c = search needs
 
--- src/delete.rt:35:9
 returns : tie.Need-returns Inv-loop μ-loop
 returns c =
     let s = c .before .before .before in
     refers-other _ _ _ _ _ _ (λ e. c .if1 .taken (refers-is _ _ (s .pre .1 .0 .sound-is) (s .pre .1 .0 .relation) ∙ e))
 
--- src/delete.rt:37:9
 lay-requires : tie.Need-lay-requires Inv-loop μ-loop
 lay-requires c κs = let s = c .before .before .before in (s .pre .1 .0 .sound-is, s .pre .1 .0 .relation)
 
--- src/delete.rt:38:18
 mul-column : tie.Need-mul-column Inv-loop μ-loop
 mul-column c = let s = c .before .before .before .before in omega (arith, relation-few _ _ (s .pre .1 .0 .sound-is) (s .pre .1 .0 .relation))
 
--- src/delete.rt:38:18
 element-copy-out-column : tie.Need-element-copy-out-column Inv-loop μ-loop
 element-copy-out-column c = let s = c .before .before .before .before in omega (arith, relation-few _ _ (s .pre .1 .0 .sound-is) (s .pre .1 .0 .relation))
 
--- src/delete.rt:38:18
 cast-column : tie.Need-cast-column Inv-loop μ-loop
 cast-column c = search needs
 
--- src/delete.rt:41:5
 loop-holds : tie.Need-loop-holds Inv-loop μ-loop
 loop-holds c = (omega arith, any-start _)
 
--- src/delete.rt:42:13
 value-at-requires : tie.Need-value-at-requires Inv-loop μ-loop
 value-at-requires c κs =
     let a = c .before .before .before in
@@ -70,11 +56,9 @@ value-at-requires c κs =
       rw (foreign-is _ _ (k .sound-is) (k .relation)) (reference-inside _ _ _ _ _ k (s .pre .1 .1) (sym (refers-is _ _ (k .sound-is) (k .relation)) ∙ a .before .if1 .left) (c .before .loop .row) (omega (arith, a .lay .ensures .rows, c .loop-test .taken))),
     )
 
--- src/delete.rt:43:12
 names-requires : tie.Need-names-requires Inv-loop μ-loop
 names-requires c κs = let s = c .before .before .before .before .before .before .before .before in (s .pre .0 .0, s .pre .0 .1)
 
--- src/delete.rt:44:13
 returns-2 : tie.Need-returns-2 Inv-loop μ-loop
 returns-2 c =
     let l = c .before .before .before .before .loop in
@@ -86,15 +70,12 @@ returns-2 c =
     (c .if2 .taken)
     (omega (arith, a .lay .ensures .rows, c .before .before .before .loop-test .taken))
 
--- src/delete.rt:46:9
 add-row : tie.Need-add-row Inv-loop μ-loop
 add-row c = let a = c .before .before .before .before .before .before in omega (arith, a .lay .ensures .few)
 
--- src/delete.rt:41:5
 loop-less : tie.Need-loop-less Inv-loop μ-loop
 loop-less c = omega arith
 
--- src/delete.rt:41:5
 loop-again : tie.Need-loop-again Inv-loop μ-loop
 loop-again c =
     let l = c .before .before .before .before .loop in
@@ -107,7 +88,6 @@ loop-again c =
           (c .if2 .left),
     )
 
--- src/delete.rt:21:1
 returns-3 : tie.Need-returns-3 Inv-loop μ-loop
 returns-3 c =
     let l = c .before .loop in

@@ -4,31 +4,22 @@ use Rattle.marks.proofs.Marking.{row-unmarked, row-marked}
 use borrow.Author.Needs.{needs}
 use Rattle.delete.proofs.row.Statement.{statement}
 use Rattle.delete.proofs.row.Tie as tie
-use Rattle.delete.proofs.row.Reads as reads
-use Rattle.delete.proofs.row.Lts as lts
-use Rattle.cells.proofs.write.clear.Reads as clear-reads
 
--- src/delete.rt:114:9
 array-read-if1 : tie.Need-array-read-if1
 array-read-if1 c = search needs
 
--- src/delete.rt:115:9
 returns : tie.Need-returns
 returns c = row-unmarked _ _ _ _ _ _ _ (λ R. norow) _ (not-true _ (c .if1 .taken))
 
--- src/delete.rt:117:5
 clear-requires : tie.Need-clear-requires
 clear-requires c κs = search needs
 
--- src/delete.rt:100:1
 same-length : tie.Need-same-length
 same-length c = search needs
 
--- src/delete.rt:100:1
 same-length-2 : tie.Need-same-length-2
 same-length-2 c = search needs
 
--- src/delete.rt:100:1
 returns-2 : tie.Need-returns-2
 returns-2 c =
     let k = c .before .before .before .before in

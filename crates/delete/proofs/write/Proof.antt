@@ -1,38 +1,28 @@
 use mathlib.Core.Path.{refl, _∙_}
-use native.Mathlib.Omega.{arith}
 use Rattle.change.proofs.Known.{own-level, lent}
 use Rattle.marks.proofs.Carrying.{working}
 use Rattle.delete.proofs.Deleted.{delete-left, delete-planned}
 use borrow.Author.Needs.{needs}
 use Rattle.delete.proofs.write.Statement.{statement}
 use Rattle.delete.proofs.write.Tie as tie
-use Rattle.delete.proofs.write.Reads as reads
-use Rattle.delete.proofs.write.Lts as lts
-use Rattle.above.proofs.above.Reads as above-reads
-use Rattle.delete.proofs.rows.Reads as rows-reads
 
--- src/delete.rt:186:5
 above-requires : tie.Need-above-requires
 above-requires c κs =
     let s = c .before .before .before .before in
     ((lent (s .pre .0), working (s .pre .0)), delete-planned _ (record { gone = refl; kinds = refl; values = refl; classes = refl }) _ _ _ _ _ (working (s .pre .0)) (s .pre .1))
 
--- src/delete.rt:196:5
 rows-requires : tie.Need-rows-requires
 rows-requires c κs =
     let a = c .before .before .before .before .before .before in
     let k = a .before .before .before .before .before .pre .0 in
     (record { laid = k .laid; values = a .above .kept .0 ∙ k .long; classes = a .above .kept .1 .0 ∙ k .wide }, own-level k)
 
--- src/delete.rt:162:1
 same-length : tie.Need-same-length
 same-length c = search needs
 
--- src/delete.rt:162:1
 same-length-2 : tie.Need-same-length-2
 same-length-2 c = search needs
 
--- src/delete.rt:162:1
 returns : tie.Need-returns
 returns c =
     let w = c .before .before .before .before in

@@ -1,10 +1,9 @@
 -- The invariant: the values of the columns passed are written.
-use Prim.Native.Nat.{suc, _+_, _≤_, _-_}
+use Prim.Native.Nat.{suc, _≤_, _-_}
 use mathlib.Core.Path.{_≡_, refl, _∙_}
 use native.Mathlib.Numerals.{add-one}
 use native.Mathlib.Omega.{arith}
 use lib.ListN.{length, length-set}
-use borrow.Author.Needs.{needs}
 use Rattle.bounded.specs.Lists.{listBelow, writeAt}
 use Rattle.bounded.proofs.Lists.{numbers-start, numbers-more, numbers-end}
 use Rattle.model.proofs.Border.{inside-shown}
@@ -14,13 +13,13 @@ use Rattle.select.proofs.copy.Statement.{statement}
 use Rattle.select.proofs.copy.Tie as tie
 
 abbrev Inv-loop : tie.InvT-loop
-Inv-loop values shown₀ description relation part level row at columns column₀ shown column =
+Inv-loop values shown₀ d relation part level row at columns column₀ shown column =
     (column ≤ columns)
     × (length shown ≡ length shown₀)
-    × (shown ≡ writeAt at (listBelow column (λ k. valueAt description values relation level row (suc k))) shown₀)
+    × (shown ≡ writeAt (at .values) (listBelow column (λ k. valueAt d values relation level row (suc k))) shown₀)
 
 abbrev μ-loop : tie.MeasureT-loop
-μ-loop values shown₀ description relation part level row at columns column₀ shown column = columns - column
+μ-loop values shown₀ d relation part level row at columns column₀ shown column = columns - column
 
 loop-holds : tie.Need-loop-holds Inv-loop μ-loop
 loop-holds c = (omega arith, refl, numbers-start _ _ _)
@@ -42,13 +41,13 @@ value-at-requires c κs =
     )
 
 add-shown : tie.Need-add-shown Inv-loop μ-loop
-add-shown c = omega (arith, c .before .before .before .before .before .pre)
+add-shown c = omega (arith, c .before .before .before .before .before .before .pre)
 
 mul-shown : tie.Need-mul-shown Inv-loop μ-loop
-mul-shown c = omega (arith, c .before .before .before .before .before .pre)
+mul-shown c = omega (arith, c .before .before .before .before .before .before .pre)
 
 slice-write-shown : tie.Need-slice-write-shown Inv-loop μ-loop
-slice-write-shown c = omega (arith, c .before .before .before .before .before .pre)
+slice-write-shown c = omega (arith, c .before .before .before .before .before .before .pre)
 
 add-column : tie.Need-add-column Inv-loop μ-loop
 add-column c = omega arith
@@ -58,11 +57,11 @@ loop-less c = omega arith
 
 loop-again : tie.Need-loop-again Inv-loop μ-loop
 loop-again c =
-    let s = c .before .before .before .before .before in
-    let l = c .before .before .loop in (
+    let s = c .before .before .before .before .before .before in
+    let l = c .before .before .before .loop in (
       omega arith,
       simp length-set (l .inv .1),
-      numbers-more _ _ _ _ (l .inv .2) (omega (arith, s .pre .1, s .pre .0 .0 .laid .columns)) (c .value-at .ensures ∙ rw add-one),
+      numbers-more _ _ _ _ (l .inv .2) (omega (arith, s .pre .1, s .pre .0 .0 .laid .columns)) (c .before .value-at .ensures ∙ rw add-one),
     )
 
 same-length : tie.Need-same-length Inv-loop μ-loop

@@ -13,11 +13,11 @@ use Rattle.select.proofs.high.Statement.{statement}
 use Rattle.select.proofs.high.Tie as tie
 
 abbrev Inv-loop : tie.InvT-loop
-Inv-loop list description subject height levels found₀ level₀ found level =
-    (level ≤ levels) × Holds (held found₀ ++ concatBelow level (levelAt description subject list height)) found
+Inv-loop list d subject height levels found₀ level₀ found level =
+    (level ≤ levels) × Holds (held found₀ ++ concatBelow level (levelAt d subject list height)) found
 
 abbrev μ-loop : tie.MeasureT-loop
-μ-loop list description subject height levels found₀ level₀ found level = levels - level
+μ-loop list d subject height levels found₀ level₀ found level = levels - level
 
 cast-levels : tie.Need-cast-levels Inv-loop μ-loop
 cast-levels c = search needs
@@ -49,7 +49,7 @@ loop-again : tie.Need-loop-again Inv-loop μ-loop
 loop-again c =
     let s = c .before .before .before .before .before .before in
     let l = c .before .before .before .loop in
-    let g = levelAt (s .args .description) (s .args .subject) (s .args .list .now) (s .args .height) in
+    let g = levelAt (s .args .d) (s .args .subject) (s .args .list .now) (s .args .height) in
     elim (c .if1 .came) [
       | inl x ↦ (
         omega arith,
@@ -67,7 +67,7 @@ returns : tie.Need-returns Inv-loop μ-loop
 unfolding levelsAt
 returns c =
     let s = c .before .before .before .before in
-    holds-end _ _ (levelAt (s .args .description) (s .args .subject) (s .args .list .now) (s .args .height)) (held (s .args .before)) (c .before .loop .inv .1) (c .before .loop .inv .0) (c .loop-test .left)
+    holds-end _ _ (levelAt (s .args .d) (s .args .subject) (s .args .list .now) (s .args .height)) (held (s .args .before)) (c .before .loop .inv .1) (c .before .loop .inv .0) (c .loop-test .left)
 
 pub high-spec : {M : Type 1} → statement M
 high-spec =

@@ -11,11 +11,11 @@ use Rattle.select.proofs.lay.Statement.{statement}
 use Rattle.select.proofs.lay.Tie as tie
 
 abbrev Inv-loop : tie.InvT-loop
-Inv-loop list description subject found₀ height₀ found height =
-    (height ≤ 24) × Holds (concatBelow height (levelsAt description subject list)) found
+Inv-loop list d subject found₀ height₀ found height =
+    (height ≤ 24) × Holds (concatBelow height (levelsAt d subject list)) found
 
 abbrev μ-loop : tie.MeasureT-loop
-μ-loop list description subject found₀ height₀ found height = 24 - height
+μ-loop list d subject found₀ height₀ found height = 24 - height
 
 loop-holds : tie.Need-loop-holds Inv-loop μ-loop
 loop-holds c = (omega arith, holds-none _)
@@ -24,7 +24,7 @@ high-requires : tie.Need-high-requires Inv-loop μ-loop
 high-requires c κs =
     let s = c .before .before .before in
     let l = c .before .loop in
-    (holds-held (l .inv .1), (s .pre, omega (arith, l .inv .1 .count, levels-room (s .args .description) (s .args .subject) (s .args .list .now) (l .height) (c .loop-test .taken))))
+    (holds-held (l .inv .1), (s .pre, omega (arith, l .inv .1 .count, levels-room (s .args .d) (s .args .subject) (s .args .list .now) (l .height) (c .loop-test .taken))))
 
 add-height : tie.Need-add-height Inv-loop μ-loop
 add-height c = search needs

@@ -1,8 +1,5 @@
 use Rattle.select.proofs.Shown.{room-values, room-owners, wrote-unmarked, wrote-marked}
 use borrow.Author.Tests.{not-true, not-false}
-use mathlib.Core.Path.{_≡_, refl, sym, ap, _∙_}
-use native.Mathlib.Omega.{arith}
-use lib.ListN.{length}
 use borrow.Author.Needs.{needs}
 use Rattle.select.proofs.put.Statement.{statement}
 use Rattle.select.proofs.put.Tie as tie

@@ -14,13 +14,13 @@ use Rattle.select.proofs.rows.Statement.{statement}
 use Rattle.select.proofs.rows.Tie as tie
 
 abbrev Inv-loop : tie.InvT-loop
-Inv-loop values classes conditions description order relation part levels total rows₀ i₀ rows i =
+Inv-loop values classes conditions d order relation part laid total rows₀ i₀ rows i =
     (i ≤ total)
     × (rows ≤ 64 * i)
-    × (rows ≡ length (concatBelow i (levelFound description relation conditions (stateOf description (holding values classes)) levels)))
+    × (rows ≡ length (concatBelow i (levelFound d relation conditions (stateOf d (holding values classes)) laid)))
 
 abbrev μ-loop : tie.MeasureT-loop
-μ-loop values classes conditions description order relation part levels total rows₀ i₀ rows i = total - i
+μ-loop values classes conditions d order relation part laid total rows₀ i₀ rows i = total - i
 
 loop-holds : tie.Need-loop-holds Inv-loop μ-loop
 loop-holds c = (omega arith, omega arith, concat-start _)

@@ -1,6 +1,6 @@
 -- The invariant: the rows passed that meet the conditions are written.
 use Prim.Native.Nat.{_≤_, _-_}
-use mathlib.Core.Path.{_≡_, refl, sym, _∙_}
+use mathlib.Core.Path.{_≡_, refl, _∙_}
 use native.Mathlib.Omega.{arith}
 use lib.ListN.{length}
 use borrow.Author.Needs.{needs}
@@ -14,14 +14,14 @@ use Rattle.select.proofs.show.Statement.{statement}
 use Rattle.select.proofs.show.Tie as tie
 
 abbrev Inv-loop : tie.InvT-loop
-Inv-loop values classes conditions shown₀ owners₀ description relation part level marks rows at₀ row₀ shown owners at row =
+Inv-loop values classes conditions shown₀ owners₀ d relation part level marks rows at₀ row₀ shown owners at row =
     (row ≤ rows)
     × (length shown ≡ length shown₀)
     × (length owners ≡ length owners₀)
-    × Wrote (concatBelow row (rowFound description relation conditions (stateOf description (holding values classes)) level)) at₀ at shown₀ owners₀ shown owners
+    × Wrote (concatBelow row (rowFound d relation conditions (stateOf d (holding values classes)) level)) at₀ at shown₀ owners₀ shown owners
 
 abbrev μ-loop : tie.MeasureT-loop
-μ-loop values classes conditions shown₀ owners₀ description relation part level marks rows at₀ row₀ shown owners at row = rows - row
+μ-loop values classes conditions shown₀ owners₀ d relation part level marks rows at₀ row₀ shown owners at row = rows - row
 
 marks-requires : tie.Need-marks-requires Inv-loop μ-loop
 marks-requires c κs = search needs

@@ -1,4 +1,3 @@
-use mathlib.Core.Path.{_≡_, sym, _∙_}
 use borrow.Author.Tests.{eq-eqb, ne-eqb}
 use Rattle.model.specs.Description.{labelOf, heightAt}
 use Rattle.select.specs.Facts.{wanted}

@@ -14,14 +14,14 @@ use Rattle.select.proofs.write.Statement.{statement}
 use Rattle.select.proofs.write.Tie as tie
 
 abbrev Inv-loop : tie.InvT-loop
-Inv-loop values classes conditions shown₀ owners₀ description order relation part levels total at₀ i₀ shown owners at i =
-    (i ≤ total)
+Inv-loop values classes conditions shown₀ owners₀ d order relation part laid total at₀ next₀ shown owners at next =
+    (next ≤ total)
     × (length shown ≡ length shown₀)
     × (length owners ≡ length owners₀)
-    × Wrote (concatBelow i (levelFound description relation conditions (stateOf description (holding values classes)) levels)) start at shown₀ owners₀ shown owners
+    × Wrote (concatBelow next (levelFound d relation conditions (stateOf d (holding values classes)) laid)) start at shown₀ owners₀ shown owners
 
 abbrev μ-loop : tie.MeasureT-loop
-μ-loop values classes conditions shown₀ owners₀ description order relation part levels total at₀ i₀ shown owners at i = total - i
+μ-loop values classes conditions shown₀ owners₀ d order relation part laid total at₀ next₀ shown owners at next = total - next
 
 loop-holds : tie.Need-loop-holds Inv-loop μ-loop
 loop-holds c = (omega arith, refl, refl, wrote-start _ _ _ _)
@@ -41,8 +41,8 @@ show-requires c κs =
       level-room _ _ _ _ _ _ (l .inv .3) small (s .pre .1) (l .inv .1) (l .inv .2),
     )
 
-add-i : tie.Need-add-i Inv-loop μ-loop
-add-i c = search needs
+add-next : tie.Need-add-next Inv-loop μ-loop
+add-next c = search needs
 
 loop-less : tie.Need-loop-less Inv-loop μ-loop
 loop-less c = omega arith
@@ -80,7 +80,7 @@ write-spec =
     element-copy-out-show
     cast-show
     show-requires
-    add-i
+    add-next
     loop-less
     loop-again
     same-length

@@ -1,3 +1,4 @@
+-- The invariant: the pairs that were passed have their 1.
 use borrow.Author.Needs.{needs}
 use Prim.Native.Nat.{_*_, _-_, _≤_}
 use native.Mathlib.Omega.{arith}
@@ -6,8 +7,6 @@ use Rattle.marks.specs.Marking.{ByColumn}
 use Rattle.update.proofs.Setting.{among, columns-none, columns-more, kinds-end}
 use Rattle.update.proofs.kinds.Statement.{statement}
 use Rattle.update.proofs.kinds.Tie as tie
-use Rattle.update.proofs.kinds.Reads as reads
-use Rattle.update.proofs.kinds.Lts as lts
 
 abbrev Inv-loop : tie.InvT-loop
 Inv-loop list kinds₀ pairs i₀ kinds i = (i ≤ pairs) × ByColumn (among i list (λ v. 1) 0) kinds
@@ -15,40 +14,31 @@ Inv-loop list kinds₀ pairs i₀ kinds i = (i ≤ pairs) × ByColumn (among i l
 abbrev μ-loop : tie.MeasureT-loop
 μ-loop list kinds₀ pairs i₀ kinds i = pairs - i
 
--- src/update.rt:56:5
 loop-holds : tie.Need-loop-holds Inv-loop μ-loop
 loop-holds c = (omega arith, columns-none _ _)
 
--- src/update.rt:57:27
 mul-column : tie.Need-mul-column Inv-loop μ-loop
 mul-column c = search needs
 
--- src/update.rt:57:22
 mul-column-2 : tie.Need-mul-column-2 Inv-loop μ-loop
 mul-column-2 c = search needs
 
--- src/update.rt:57:22
 shared-slice-read-column : tie.Need-shared-slice-read-column Inv-loop μ-loop
 shared-slice-read-column c = search needs
 
--- src/update.rt:57:22
 cast-column : tie.Need-cast-column Inv-loop μ-loop
 cast-column c = omega (arith, c .shared-slice-known .given (2 * c .before .before .loop .i))
 
--- src/update.rt:58:9
 array-write-kinds : tie.Need-array-write-kinds Inv-loop μ-loop
 unfolding pairsOf columnAt
 array-write-kinds c = let s = c .before .before .before in omega (arith, s .pre .most (c .before .before .loop .i) (c .before .loop-test .taken))
 
--- src/update.rt:59:9
 add-i : tie.Need-add-i Inv-loop μ-loop
 add-i c = search needs
 
--- src/update.rt:56:5
 loop-less : tie.Need-loop-less Inv-loop μ-loop
 loop-less c = search needs
 
--- src/update.rt:56:5
 loop-again : tie.Need-loop-again Inv-loop μ-loop
 unfolding pairsOf columnAt
 loop-again c =
@@ -56,7 +46,6 @@ loop-again c =
     let s = c .before .before .before in
     (omega (arith, c .before .loop-test .taken), columns-more _ (λ v. 1) (l .i) _ (s .pre) (c .before .loop-test .taken) (l .inv .1))
 
--- src/update.rt:49:1
 returns : tie.Need-returns Inv-loop μ-loop
 unfolding pairsOf
 returns c =

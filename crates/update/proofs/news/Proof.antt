@@ -1,3 +1,4 @@
+-- The invariant: the pairs that were passed have their value.
 use borrow.Author.Needs.{needs}
 use Prim.Native.Nat.{_*_, _-_, _≤_}
 use native.Mathlib.Omega.{arith}
@@ -6,8 +7,6 @@ use Rattle.marks.specs.Marking.{ByColumn}
 use Rattle.update.proofs.Setting.{among, columns-none, columns-more, news-end}
 use Rattle.update.proofs.news.Statement.{statement}
 use Rattle.update.proofs.news.Tie as tie
-use Rattle.update.proofs.news.Reads as reads
-use Rattle.update.proofs.news.Lts as lts
 
 abbrev Inv-loop : tie.InvT-loop
 Inv-loop list news₀ pairs i₀ news i = (i ≤ pairs) × ByColumn (among i list (λ v. v) 0) news
@@ -15,61 +14,47 @@ Inv-loop list news₀ pairs i₀ news i = (i ≤ pairs) × ByColumn (among i lis
 abbrev μ-loop : tie.MeasureT-loop
 μ-loop list news₀ pairs i₀ news i = pairs - i
 
--- src/update.rt:72:5
 loop-holds : tie.Need-loop-holds Inv-loop μ-loop
 loop-holds c = (omega arith, columns-none _ _)
 
--- src/update.rt:73:27
 mul-column : tie.Need-mul-column Inv-loop μ-loop
 mul-column c = search needs
 
--- src/update.rt:73:22
 mul-column-2 : tie.Need-mul-column-2 Inv-loop μ-loop
 mul-column-2 c = search needs
 
--- src/update.rt:73:22
 shared-slice-read-column : tie.Need-shared-slice-read-column Inv-loop μ-loop
 shared-slice-read-column c = search needs
 
--- src/update.rt:73:22
 cast-column : tie.Need-cast-column Inv-loop μ-loop
 cast-column c = omega (arith, c .shared-slice-known .given (2 * c .before .before .loop .i))
 
--- src/update.rt:74:29
 mul-news : tie.Need-mul-news Inv-loop μ-loop
 mul-news c = search needs
 
--- src/update.rt:74:29
 add-news : tie.Need-add-news Inv-loop μ-loop
 add-news c = search needs
 
--- src/update.rt:74:24
 mul-news-2 : tie.Need-mul-news-2 Inv-loop μ-loop
 mul-news-2 c = search needs
 
--- src/update.rt:74:24
 shared-slice-read-news : tie.Need-shared-slice-read-news Inv-loop μ-loop
 shared-slice-read-news c = search needs
 
--- src/update.rt:74:9
 mul-news-3 : tie.Need-mul-news-3 Inv-loop μ-loop
 unfolding pairsOf columnAt
 mul-news-3 c = let s = c .before .before .before .before in omega (arith, s .pre .most (c .before .before .before .loop .i) (c .before .before .loop-test .taken))
 
--- src/update.rt:74:9
 array-write-news : tie.Need-array-write-news Inv-loop μ-loop
 unfolding pairsOf columnAt
 array-write-news c = let s = c .before .before .before .before in omega (arith, s .pre .most (c .before .before .before .loop .i) (c .before .before .loop-test .taken))
 
--- src/update.rt:75:9
 add-i : tie.Need-add-i Inv-loop μ-loop
 add-i c = search needs
 
--- src/update.rt:72:5
 loop-less : tie.Need-loop-less Inv-loop μ-loop
 loop-less c = search needs
 
--- src/update.rt:72:5
 loop-again : tie.Need-loop-again Inv-loop μ-loop
 unfolding pairsOf columnAt secondAt
 loop-again c =
@@ -77,7 +62,6 @@ loop-again c =
     let s = c .before .before .before .before in
     (omega (arith, c .before .before .loop-test .taken), columns-more _ (λ v. v) (l .i) _ (s .pre) (c .before .before .loop-test .taken) (l .inv .1))
 
--- src/update.rt:65:1
 returns : tie.Need-returns Inv-loop μ-loop
 unfolding pairsOf
 returns c =

@@ -3,31 +3,22 @@ use Rattle.marks.proofs.Marking.{row-unmarked, row-marked}
 use borrow.Author.Needs.{needs}
 use Rattle.update.proofs.row.Statement.{statement}
 use Rattle.update.proofs.row.Tie as tie
-use Rattle.update.proofs.row.Reads as reads
-use Rattle.update.proofs.row.Lts as lts
-use Rattle.update.proofs.set.Reads as set-reads
 
--- src/update.rt:132:9
 array-read-if1 : tie.Need-array-read-if1
 array-read-if1 c = search needs
 
--- src/update.rt:133:9
 returns : tie.Need-returns
 returns c = row-unmarked _ _ _ _ _ _ _ _ _ (not-true _ (c .if1 .taken))
 
--- src/update.rt:135:5
 set-requires : tie.Need-set-requires
 set-requires c κs = search needs
 
--- src/update.rt:117:1
 same-length : tie.Need-same-length
 same-length c = search needs
 
--- src/update.rt:117:1
 same-length-2 : tie.Need-same-length-2
 same-length-2 c = search needs
 
--- src/update.rt:117:1
 returns-2 : tie.Need-returns-2
 returns-2 c =
     let k = c .before .before .before .before in

@@ -1,3 +1,4 @@
+-- The invariant: the rows that were passed are set where they are marked, and nothing else has changed.
 use Prim.Native.Nat.{_-_, _≤_}
 use mathlib.Core.Path.{_≡_, refl, _∙_}
 use native.Mathlib.Omega.{arith}
@@ -12,9 +13,6 @@ use Rattle.marks.specs.Marking.{rowMarked}
 use Rattle.marks.proofs.Marking.{marked-more}
 use Rattle.update.proofs.rows.Statement.{statement}
 use Rattle.update.proofs.rows.Tie as tie
-use Rattle.update.proofs.rows.Reads as reads
-use Rattle.update.proofs.rows.Lts as lts
-use Rattle.update.proofs.row.Reads as row-reads
 
 abbrev Inv-loop : tie.InvT-loop
 Inv-loop values₀ classes₀ list description relation part marks level rows i₀ values classes i =
@@ -30,11 +28,9 @@ Inv-loop values₀ classes₀ list description relation part marks level rows i�
 abbrev μ-loop : tie.MeasureT-loop
 μ-loop values₀ classes₀ list description relation part marks level rows i₀ values classes i = rows - i
 
--- src/update.rt:164:5
 loop-holds : tie.Need-loop-holds Inv-loop μ-loop
 loop-holds c = (omega arith, refl, refl, rows-start _ _ _ _ _)
 
--- src/update.rt:165:9
 row-requires : tie.Need-row-requires Inv-loop μ-loop
 row-requires c κs =
     let t = c .before .before in
@@ -47,17 +43,14 @@ row-requires c κs =
       s .pre .1,
     )
 
--- src/update.rt:176:9
 add-i : tie.Need-add-i Inv-loop μ-loop
 add-i c =
     let s = c .before .before .before .before .before .before .before .before .before .before .before .before in
     omega (arith, s .pre .0 .0 .laid .few)
 
--- src/update.rt:164:5
 loop-less : tie.Need-loop-less Inv-loop μ-loop
 loop-less c = omega arith
 
--- src/update.rt:164:5
 loop-again : tie.Need-loop-again Inv-loop μ-loop
 loop-again c =
     let k = c .before .before .before .before .row in
@@ -65,15 +58,12 @@ loop-again c =
     let l = t .before .loop in
     (omega (arith, t .loop-test .taken), k .kept .0 ∙ l .inv .1, k .kept .1 .0 ∙ l .inv .2, marked-more _ _ _ _ _ _ _ _ (l .i) (l .inv .3) (k .ensures))
 
--- src/update.rt:148:1
 same-length : tie.Need-same-length Inv-loop μ-loop
 same-length c = c .before .loop .inv .1
 
--- src/update.rt:148:1
 same-length-2 : tie.Need-same-length-2 Inv-loop μ-loop
 same-length-2 c = c .before .loop .inv .2
 
--- src/update.rt:148:1
 returns : tie.Need-returns Inv-loop μ-loop
 returns c =
     let s = c .before .before .before .before .before in

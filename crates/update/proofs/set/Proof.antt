@@ -1,5 +1,6 @@
+-- The invariant: the pairs that were passed are set in the row, and nothing else has changed.
 use borrow.Author.Needs.{needs}
-use Prim.Native.Nat.{_*_, _+_, _-_, _≤_}
+use Prim.Native.Nat.{_*_, _-_, _≤_}
 use mathlib.Core.Path.{_≡_, refl, _∙_}
 use native.Mathlib.Omega.{arith}
 use lib.ListN.{length}
@@ -11,9 +12,6 @@ use Rattle.cells.specs.Changed.{holding, withRow, changeLevel}
 use Rattle.update.proofs.Setting.{setBelow, set-start, set-more, set-end}
 use Rattle.update.proofs.set.Statement.{statement}
 use Rattle.update.proofs.set.Tie as tie
-use Rattle.update.proofs.set.Reads as reads
-use Rattle.update.proofs.set.Lts as lts
-use Rattle.cells.proofs.write.put.Reads as put-reads
 
 abbrev Inv-loop : tie.InvT-loop
 Inv-loop values₀ classes₀ list description relation part level row pairs i₀ values classes i =
@@ -26,47 +24,36 @@ Inv-loop values₀ classes₀ list description relation part level row pairs i�
 abbrev μ-loop : tie.MeasureT-loop
 μ-loop values₀ classes₀ list description relation part level row pairs i₀ values classes i = pairs - i
 
--- src/update.rt:95:5
 loop-holds : tie.Need-loop-holds Inv-loop μ-loop
 loop-holds c = (omega arith, refl, refl, set-start _ _ _ _ _ _)
 
--- src/update.rt:96:27
 mul-column : tie.Need-mul-column Inv-loop μ-loop
 mul-column c = search needs
 
--- src/update.rt:96:22
 mul-column-2 : tie.Need-mul-column-2 Inv-loop μ-loop
 mul-column-2 c = search needs
 
--- src/update.rt:96:22
 shared-slice-read-column : tie.Need-shared-slice-read-column Inv-loop μ-loop
 shared-slice-read-column c = search needs
 
--- src/update.rt:96:22
 cast-column : tie.Need-cast-column Inv-loop μ-loop
 cast-column c = omega (arith, c .shared-slice-known2 .given (2 * c .before .before .loop .i))
 
--- src/update.rt:97:26
 mul-value : tie.Need-mul-value Inv-loop μ-loop
 mul-value c = search needs
 
--- src/update.rt:97:26
 add-value : tie.Need-add-value Inv-loop μ-loop
 add-value c = search needs
 
--- src/update.rt:97:21
 mul-value-2 : tie.Need-mul-value-2 Inv-loop μ-loop
 mul-value-2 c = search needs
 
--- src/update.rt:97:21
 shared-slice-read-value : tie.Need-shared-slice-read-value Inv-loop μ-loop
 shared-slice-read-value c = search needs
 
--- src/update.rt:108:13
 cast-put : tie.Need-cast-put Inv-loop μ-loop
 cast-put c = let s = c .before .before .before .before .before .before .before .before .before in omega (arith, s .pre .1 .1)
 
--- src/update.rt:98:9
 put-requires : tie.Need-put-requires Inv-loop μ-loop
 unfolding pairsOf columnAt
 put-requires c κs =
@@ -83,15 +70,12 @@ put-requires c κs =
       }),
     )
 
--- src/update.rt:110:9
 add-i : tie.Need-add-i Inv-loop μ-loop
 add-i c = search needs
 
--- src/update.rt:95:5
 loop-less : tie.Need-loop-less Inv-loop μ-loop
 loop-less c = omega arith
 
--- src/update.rt:95:5
 loop-again : tie.Need-loop-again Inv-loop μ-loop
 unfolding pairsOf columnAt secondAt
 loop-again c =
@@ -105,15 +89,12 @@ loop-again c =
       set-more _ _ _ _ _ _ _ (l .i) (s .pre .1 .0) (t .loop-test .taken) (l .inv .3) (k .ensures),
     )
 
--- src/update.rt:79:1
 same-length : tie.Need-same-length Inv-loop μ-loop
 same-length c = c .before .loop .inv .1
 
--- src/update.rt:79:1
 same-length-2 : tie.Need-same-length-2 Inv-loop μ-loop
 same-length-2 c = c .before .loop .inv .2
 
--- src/update.rt:79:1
 returns : tie.Need-returns Inv-loop μ-loop
 unfolding pairsOf
 returns c = set-end _ _ _ _ _ _ _ (c .before .loop .i) (omega (arith, c .before .loop .inv .0, c .loop-test .left)) (c .before .loop .inv .3)

@@ -1,55 +1,39 @@
 use borrow.Author.Tests.{not-true, not-false}
-use native.Mathlib.Omega.{arith}
 use Rattle.change.proofs.Known.{ordered, related, own-level, naming, lent}
 use Rattle.marks.proofs.Carrying.{chosen}
 use Rattle.update.proofs.Updated.{update-columns, update-keyless, update-listing, update-range, update-reference, update-done}
 use borrow.Author.Needs.{needs}
 use Rattle.update.proofs.update.Statement.{statement}
 use Rattle.update.proofs.update.Tie as tie
-use Rattle.update.proofs.update.Reads as reads
-use Rattle.update.proofs.update.Lts as lts
-use Rattle.asked.proofs.conditions.count.Reads as count-reads
-use Rattle.asked.proofs.conditions.marks.Reads as marks-reads
-use Rattle.asked.proofs.pairs.each.Reads as each-reads
-use Rattle.update.proofs.reference.Reads as reference-reads
-use Rattle.update.proofs.write.Reads as write-reads
 
--- src/update.rt:281:9
 each-requires : tie.Need-each-requires
 each-requires c κs = let k = c .before .before .before .before .pre .0 in (ordered k, related k)
 
--- src/update.rt:289:9
 returns : tie.Need-returns
 returns c =
     let s = c .before .before .before .before .before .before in
     update-range (s .pre .0) _ _ (c .before .each .ensures) (not-true _ (c .if1 .taken))
 
--- src/update.rt:291:9
 marks-requires : tie.Need-marks-requires
 marks-requires c κs =
     let s = c .before .before .before .before .before .before .before .before in
     let k = s .pre .0 in
     ((lent k, own-level k), record { ordered = ordered k; formed = s .pre .1 .1 })
 
--- src/update.rt:301:9
 count-requires : tie.Need-count-requires
 count-requires c κs = search needs
 
--- src/update.rt:302:9
 reference-requires : tie.Need-reference-requires
 reference-requires c κs =
     let s = c .before .before .before .before .before .before .before .before .before .before .before in
     (naming (s .pre .0), update-columns _ _ _ (s .pre .1 .0))
 
--- src/update.rt:303:9
 same-length : tie.Need-same-length
 same-length c = search needs
 
--- src/update.rt:303:9
 same-length-2 : tie.Need-same-length-2
 same-length-2 c = search needs
 
--- src/update.rt:303:9
 returns-2 : tie.Need-returns-2
 returns-2 c =
     let m = c .before .before .before .before in
@@ -57,22 +41,18 @@ returns-2 c =
     let s = e .before .before .before .before .before .before in
     update-reference (s .pre .0) _ _ (e .before .each .ensures) (not-false _ (e .if1 .left)) (m .marks .ensures) (c .before .before .before .count .ensures) (c .before .reference .ensures) (not-true _ (c .if2 .taken))
 
--- src/update.rt:305:5
 write-requires : tie.Need-write-requires
 write-requires c κs =
     let m = c .before .before .before .before .before .before in
     let s = m .before .before .before .before .before .before .before .before .before in
     ((s .pre .0, chosen _ _ _ _ _ (m .marks .ensures)), (update-listing _ _ _ (s .pre .1 .0), update-keyless _ _ _ (s .pre .1 .0)))
 
--- src/update.rt:265:1
 same-length-3 : tie.Need-same-length-3
 same-length-3 c = search needs
 
--- src/update.rt:265:1
 same-length-4 : tie.Need-same-length-4
 same-length-4 c = search needs
 
--- src/update.rt:265:1
 returns-3 : tie.Need-returns-3
 returns-3 c =
     let w = c .before .before .before .before in

@@ -6,34 +6,24 @@ use Rattle.update.proofs.Updated.{listing-few, update-left, update-plan
 use borrow.Author.Needs.{needs}
 use Rattle.update.proofs.write.Statement.{statement}
 use Rattle.update.proofs.write.Tie as tie
-use Rattle.update.proofs.write.Reads as reads
-use Rattle.update.proofs.write.Lts as lts
-use Rattle.above.proofs.above.Reads as above-reads
-use Rattle.update.proofs.kinds.Reads as kinds-reads
-use Rattle.update.proofs.news.Reads as news-reads
-use Rattle.update.proofs.rows.Reads as rows-reads
 
--- src/update.rt:213:9
 kinds-requires : tie.Need-kinds-requires
 kinds-requires c κs =
     let s = c .before .before .before in
     let k = s .pre .0 .0 in
     listing-few _ _ (omega (arith, k .laid .columns, k .laid .narrow)) (s .pre .1 .0)
 
--- src/update.rt:214:9
 news-requires : tie.Need-news-requires
 news-requires c κs =
     let s = c .before .before .before .before in
     let k = s .pre .0 .0 in
     listing-few _ _ (omega (arith, k .laid .columns, k .laid .narrow)) (s .pre .1 .0)
 
--- src/update.rt:215:19
 cast-owners : tie.Need-cast-owners
 cast-owners c =
     let k = c .before .before .before .before .before .pre .0 .0 in
     omega (arith, ordered k .few, k .level)
 
--- src/update.rt:223:5
 above-requires : tie.Need-above-requires
 above-requires c κs =
     let n = c .before .before in
@@ -41,7 +31,6 @@ above-requires c κs =
     let k = s .pre .0 .0 in
     ((lent k, working k), update-planned _ _ _ _ _ _ (n .before .kinds .ensures) (n .news .ensures) refl (s .pre .0 .1) (s .pre .1 .1))
 
--- src/update.rt:233:5
 rows-requires : tie.Need-rows-requires
 rows-requires c κs =
     let a = c .before .before .before .before .before .before in
@@ -49,15 +38,12 @@ rows-requires c κs =
     let k = s .pre .0 .0 in
     ((record { laid = k .laid; values = a .above .kept .0 ∙ k .long; classes = a .above .kept .1 .0 ∙ k .wide }, own-level k), (s .pre .1 .0, omega (arith, ordered k .few, k .level)))
 
--- src/update.rt:198:1
 same-length : tie.Need-same-length
 same-length c = search needs
 
--- src/update.rt:198:1
 same-length-2 : tie.Need-same-length-2
 same-length-2 c = search needs
 
--- src/update.rt:198:1
 returns : tie.Need-returns
 returns c =
     let w = c .before .before .before .before in

@@ -1,3 +1,4 @@
+-- The invariant: no key class that was passed has a base row that the subject sees.
 use Prim.Native.Nat.{_≤_, _-_}
 use mathlib.Core.Path.{_≡_, sym, _∙_}
 use native.Mathlib.Nat.{le-antisymm}

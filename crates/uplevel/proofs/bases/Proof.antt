@@ -1,3 +1,4 @@
+-- The invariant: what is counted is how many key classes that were passed have a base row that the subject sees.
 use Prim.Native.Nat.{_≤_, _-_}
 use mathlib.Core.Path.{_≡_, _∙_}
 use mathlib.Core.Logic.{inl, inr}

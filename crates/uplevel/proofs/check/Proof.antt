@@ -2,7 +2,7 @@ use native.Mathlib.Omega.{arith}
 use borrow.Author.Tests.{not-true, not-false}
 use Rattle.change.proofs.Known.{ordered, related, own-level, own-over, sized, lent}
 use Rattle.uplevel.proofs.Entities.{level-few}
-use Rattle.uplevel.proofs.Upfaults.{taken-answer, class-answer, reference-answer, full-answer, done-answer}
+use Rattle.uplevel.proofs.Upfaults.{taken-ends, class-ends, reference-ends, full-ends, passed-ends}
 use borrow.Author.Needs.{needs}
 use Rattle.uplevel.proofs.check.Statement.{statement}
 use Rattle.uplevel.proofs.check.Tie as tie
@@ -13,7 +13,7 @@ taken-requires c κs = let s = c .before .before .before in (sized (s .pre .0 .0
 returns : tie.Need-returns
 returns c =
     let s = c .before .before .before .before .before in
-    taken-answer _ _ _ _ _ _ _ _ (own-over (s .pre .0 .0)) (s .pre .0 .1 .some-key) (s .pre .1 .1 .is) (c .before .taken .ensures) (c .if1 .taken)
+    taken-ends _ _ _ _ _ _ _ _ (own-over (s .pre .0 .0)) (s .pre .0 .1 .some-key) (s .pre .1 .1 .is) (c .before .taken .ensures) (c .if1 .taken)
 
 each-requires : tie.Need-each-requires
 each-requires c κs = let s = c .before .before .before .before .before in (ordered (s .pre .0 .0), related (s .pre .0 .0))
@@ -22,7 +22,7 @@ returns-2 : tie.Need-returns-2
 returns-2 c =
     let t = c .before .before .before in
     let s = t .before .before .before .before in
-    class-answer _ _ _ _ _ _ _ _ (own-over (s .pre .0 .0)) (s .pre .0 .1 .some-key) (s .pre .1 .1 .is) (t .taken .ensures) (c .before .before .if1 .left) (c .before .each .ensures) (not-true _ (c .if2 .taken))
+    class-ends _ _ _ _ _ _ _ _ (own-over (s .pre .0 .0)) (s .pre .0 .1 .some-key) (s .pre .1 .1 .is) (t .taken .ensures) (c .before .before .if1 .left) (c .before .each .ensures) (not-true _ (c .if2 .taken))
 
 cast-borrowed : tie.Need-cast-borrowed
 cast-borrowed c =
@@ -37,7 +37,7 @@ returns-3 c =
     let e = c .before .before .before in
     let t = e .before .before in
     let s = t .before .before .before .before in
-    reference-answer _ _ _ _ _ _ _ _ (own-over (s .pre .0 .0)) (s .pre .0 .1 .some-key) (s .pre .1 .1 .is) (t .taken .ensures) (e .before .if1 .left) (e .each .ensures) (not-false _ (c .before .before .if2 .left))
+    reference-ends _ _ _ _ _ _ _ _ (own-over (s .pre .0 .0)) (s .pre .0 .1 .some-key) (s .pre .1 .1 .is) (t .taken .ensures) (e .before .if1 .left) (e .each .ensures) (not-false _ (c .before .before .if2 .left))
     (c .before .borrowed .ensures) (not-true _ (c .if3 .taken))
 
 spot-requires : tie.Need-spot-requires
@@ -49,7 +49,7 @@ returns-4 c =
     let e = b .before .before in
     let t = e .before .before in
     let s = t .before .before .before .before in
-    full-answer _ _ _ _ _ _ _ _ (own-over (s .pre .0 .0)) (s .pre .0 .1 .some-key) (s .pre .1 .1 .is) (t .taken .ensures) (e .before .if1 .left) (e .each .ensures) (not-false _ (b .before .if2 .left))
+    full-ends _ _ _ _ _ _ _ _ (own-over (s .pre .0 .0)) (s .pre .0 .1 .some-key) (s .pre .1 .1 .is) (t .taken .ensures) (e .before .if1 .left) (e .each .ensures) (not-false _ (b .before .if2 .left))
     (b .borrowed .ensures) (not-false _ (c .before .before .before .if3 .left)) (c .before .before .spot .ensures .is) (omega (arith, s .pre .0 .0 .laid .rows, c .if4 .taken))
 
 returns-5 : tie.Need-returns-5
@@ -58,7 +58,7 @@ returns-5 c =
     let e = b .before .before in
     let t = e .before .before in
     let s = t .before .before .before .before in
-    done-answer _ _ _ _ _ _ _ _ (own-over (s .pre .0 .0)) (s .pre .0 .1 .some-key) (s .pre .1 .1 .is) (t .taken .ensures) (e .before .if1 .left) (e .each .ensures) (not-false _ (b .before .if2 .left))
+    passed-ends _ _ _ _ _ _ _ _ (own-over (s .pre .0 .0)) (s .pre .0 .1 .some-key) (s .pre .1 .1 .is) (t .taken .ensures) (e .before .if1 .left) (e .each .ensures) (not-false _ (b .before .if2 .left))
     (b .borrowed .ensures) (not-false _ (c .before .before .before .if3 .left)) (c .before .before .spot .ensures .is) (omega (arith, s .pre .0 .0 .laid .rows, c .if4 .left))
 
 pub check-spec : {M : Type 1} → statement M

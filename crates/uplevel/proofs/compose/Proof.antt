@@ -1,3 +1,4 @@
+-- The invariant: the columns that were passed have their values and their classes.
 use Prim.Native.Nat.{_+_, _≤_, _-_}
 use mathlib.Core.Path.{refl}
 use native.Mathlib.Omega.{arith}

@@ -1,7 +1,7 @@
-use Rattle.model.specs.Description.{rowCount}
 use Prim.Native.Nat.{_<_}
-use mathlib.Core.Path.{ap}
+use mathlib.Core.Path.{refl, ap}
 use lib.Dec.{ltb}
+use Rattle.model.specs.Description.{rowCount}
 use Rattle.change.proofs.Known.{lent, own-level}
 use Rattle.uplevel.proofs.Uplevelled.{row-used, uplevel-left}
 use borrow.Author.Needs.{needs}
@@ -20,8 +20,14 @@ write-requires c κs =
     let p = n .before .before .before .before in
     let s = p .before .before .before .before .before .before in
     let q = s .pre .0 .0 in
-    let h : p .spot .result < rowCount (s .args .description) (s .args .relation) = rw (p .spot .ensures .is) (s .pre .1 .1) in
-    ((q, h), (n .compose .ensures .values .long, n .compose .ensures .classes .long, row-used q _ _ _ (s .pre .0 .1) (s .pre .1 .0 .is) (p .spot .ensures .is) h (ap (ltb (s .args .here)) (q .laid .rows))))
+    let h : p .spot .result < rowCount (s .args .description) (s .args .relation) = rw (p .spot .ensures .is) (s .pre .1 .1) in (
+      (q, h),
+      (
+        n .compose .ensures .values .long,
+        n .compose .ensures .classes .long,
+        row-used q _ _ _ (s .pre .0 .1) (s .pre .1 .0 .is) (p .spot .ensures .is) h (ap (ltb (s .args .here)) (q .laid .rows)),
+      ),
+    )
 
 same-length : tie.Need-same-length
 same-length c = search needs
@@ -36,7 +42,7 @@ returns c =
     let p = n .before .before .before .before in
     let s = p .before .before .before .before .before .before in
     let q = s .pre .0 .0 in
-    uplevel-left q _ _ _ (s .pre .0 .1) (s .pre .1 .0 .is) (p .spot .ensures .is) (rw (p .spot .ensures .is) (s .pre .1 .1)) (ap (ltb (s .args .here)) (q .laid .rows)) (n .compose .ensures) (w .write .ensures)
+    (refl, uplevel-left q _ _ _ (s .pre .0 .1) (s .pre .1 .0 .is) (p .spot .ensures .is) (rw (p .spot .ensures .is) (s .pre .1 .1)) (ap (ltb (s .args .here)) (q .laid .rows)) (n .compose .ensures) (w .write .ensures))
 
 pub place-spec : {M : Type 1} → statement M
 place-spec =

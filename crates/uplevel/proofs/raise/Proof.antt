@@ -1,16 +1,15 @@
-use mathlib.Core.Path.{refl, ap}
+use mathlib.Core.Path.{refl}
 use native.Mathlib.Omega.{arith}
-use Rattle.model.specs.declared.Answer.the-variants as Answers
 use Rattle.change.specs.Facts.{refuses, does}
 use Rattle.change.proofs.Known.{lent, own-level, own-over}
 use Rattle.uplevel.proofs.Entities.{level-few}
-use Rattle.uplevel.proofs.Upfaults.{room, refused-by, done-by}
+use Rattle.uplevel.proofs.Upfaults.{room, failed-by, passed-by}
 use borrow.Author.Needs.{needs}
 use Rattle.uplevel.proofs.raise.Statement.{statement}
 use Rattle.uplevel.proofs.raise.Tie as tie
 
-cast-own : tie.Need-cast-own
-cast-own c = let s = c .before .before .before in omega (arith, level-few _ (s .pre .0 .0 .sound-is) _ _ (s .pre .1) .1)
+cast-entity : tie.Need-cast-entity
+cast-entity c = let s = c .before .before .before .before .before in omega (arith, level-few _ (s .pre .0 .0 .sound-is) _ _ (s .pre .1) .1)
 
 entity-requires : tie.Need-entity-requires
 entity-requires c κs = let s = c .before .before .before .before .before in (lent (s .pre .0 .0), own-level (s .pre .0 .0))
@@ -18,19 +17,24 @@ entity-requires c κs = let s = c .before .before .before .before .before in (le
 check-requires : tie.Need-check-requires
 check-requires c κs = search needs
 
-enum-known-answer : tie.Need-enum-known-answer
-enum-known-answer c = search needs
+enum-known-test : tie.Need-enum-known-test
+enum-known-test c = search needs
 
-enum-known-answer-2 : tie.Need-enum-known-answer-2
-enum-known-answer-2 c = search needs
+enum-told : tie.Need-enum-told
+enum-told c = search needs
+
+cast-place : tie.Need-cast-place
+cast-place c =
+    let s = c .before .before .before .before .before .before .before .before .before .before .before .before .before in
+    omega (arith, level-few _ (s .pre .0 .0 .sound-is) _ _ (s .pre .1) .1)
 
 place-requires : tie.Need-place-requires
 place-requires c κs =
-    let k = c .before .before .before .before .before in
+    let k = c .before .before .before .before in
     let e = k .before .before .before in
     let s = e .before .before .before .before .before .before in
     let q = s .pre .0 .0 in
-    ((q, s .pre .0 .1), (e .entity .ensures, room _ _ _ _ _ _ _ _ (own-over q) (s .pre .0 .1 .some-key) (e .entity .ensures .is) (done-by (k .check .ensures) (c .before .before .before .answer2 .given .1) .0)))
+    ((q, s .pre .0 .1), (e .entity .ensures, room _ _ _ _ _ _ _ _ (own-over q) (s .pre .0 .1 .some-key) (e .entity .ensures .is) (passed-by (k .check .ensures) (c .before .before .enum-told .given .1))))
 
 same-length : tie.Need-same-length
 same-length c = search needs
@@ -41,7 +45,7 @@ same-length-2 c = search needs
 returns : tie.Need-returns
 returns c =
     let k = c .before .before .before in
-    refuses _ (refused-by (k .check .ensures) (c .before .answer .given .1)) refl refl refl
+    refuses _ (failed-by (k .check .ensures) (c .before .test .given .1)) refl refl refl
 
 same-length-3 : tie.Need-same-length-3
 same-length-3 c = search needs
@@ -52,19 +56,19 @@ same-length-4 c = search needs
 returns-2 : tie.Need-returns-2
 returns-2 c =
     let p = c .before .before .before .before in
-    let k = p .before .before .before .before .before .before in
-    let a = done-by (k .check .ensures) (p .before .before .before .before .answer2 .given .1) in
-    does (a .0) (ap Answers.Done (a .1)) (p .place .ensures)
+    let t = p .before .before .before in
+    does (passed-by (t .before .before .check .ensures) (t .enum-told .given .1)) (p .place .ensures .0) (p .place .ensures .1)
 
 pub raise-spec : {M : Type 1} → statement M
 raise-spec =
     tie.close
     (tie.spec
-    cast-own
+    cast-entity
     entity-requires
     check-requires
-    enum-known-answer
-    enum-known-answer-2
+    enum-known-test
+    enum-told
+    cast-place
     place-requires
     same-length
     same-length-2
