@@ -14,7 +14,7 @@ pub struct Description {
 
 // Open addressing over (level, key) of one relation. An entry holds both and, in its low 24 bits, the row's number among all rows of the
 // relation, plus one; 0 is an empty slot.
-struct Keys {
+pub struct Keys {
     slots: Vec<u64>,
     mask: usize,
 }
@@ -28,7 +28,7 @@ fn slot(tag: u64) -> usize {
 }
 
 pub struct Room {
-    keys: Vec<Keys>,
+    pub keys: Vec<Keys>,
 }
 
 impl Room {
@@ -45,7 +45,7 @@ impl Room {
 
 // The row with a key at a level, among all rows of the relation.
 #[inline(always)]
-fn find(keys: &Keys, level: usize, key: u32) -> usize {
+pub fn find(keys: &Keys, level: usize, key: u32) -> usize {
     let tag = tag(level, key);
     let mut at = slot(tag) & keys.mask;
     loop {
@@ -65,7 +65,7 @@ fn dominates(a: u16, b: u16) -> bool {
 }
 
 // The levels that each level dominates, and those that dominate it, as words.
-fn order(d: &Description) -> ([u16; 16], [u16; 16]) {
+pub fn order(d: &Description) -> ([u16; 16], [u16; 16]) {
     let mut below = [0u16; 16];
     let mut above = [0u16; 16];
     for a in 0..d.levels {

@@ -1,57 +1,121 @@
-// Times the proved judge beside a one-pass Rust judge, in one run and on the same tables. `bench/run` builds and calls it with the program
-// `timing`, which calls the proved judge as often as its input says; the time of one call is the difference of two runs.
+// Times the proved judge and the proved statements beside Rust programs that do the same, in one run and on the same tables. `bench/run`
+// builds and calls it with the program `timing`, which does a thing as often as its input says; the time of one call is the difference of two
+// runs.
 
 mod judge;
+mod statements;
 mod tables;
 
+use statements::{Kind, Statement};
+use std::hint::black_box;
 use std::io::Write;
 use std::process::{Command, Stdio};
 use std::time::Instant;
 use tables::{case, full, Lending, Order, Tables};
 
-fn proved_seconds(program: &[String], t: &Tables, times: u32) -> f64 {
-    let input = case(t, times);
+const SET: [u32; 14] = [2, 5, 3, 5, 4, 5, 5, 5, 6, 5, 7, 5, 8, 5];
+const FROM: [u32; 14] = [2, 0, 3, 0, 4, 0, 5, 0, 6, 0, 7, 0, 8, 0];
+const AT: [u32; 16] = [15, 14, 13, 12, 11, 10, 9, 8, 7, 6, 5, 4, 3, 2, 1, 0];
+const CONDITIONS: [u32; 16] = [1, 0, 2, 1, 1, 1, 4, 15, 2, 0, 3, 4_000_000_000, 3, 0, 2, 7];
+
+// What is timed: 0 the judge, 1 to 4 a statement, with its name and how many rows it counts in a relation of `rows` rows.
+const WHAT: [&str; 5] = ["judge", "DELETE of all rows of the lowest level", "UPDATE of 7 columns of all rows of it", "UPLEVEL of 7 columns at the highest", "SELECT of all levels under 4 conditions"];
+
+fn counted(what: usize, rows: usize) -> usize {
+    [0, rows, rows, 1, 16 * rows][what]
+}
+
+fn statement(what: usize) -> Statement<'static> {
+    match what {
+        1 => Statement { kind: Kind::Delete, level: 0, key: 0, list: &[], conditions: &[] },
+        2 => Statement { kind: Kind::Update, level: 0, key: 0, list: &SET, conditions: &[] },
+        3 => Statement { kind: Kind::Uplevel, level: 15, key: 1001, list: &FROM, conditions: &[] },
+        _ => Statement { kind: Kind::Select, level: 15, key: 0, list: &AT, conditions: &CONDITIONS },
+    }
+}
+
+fn proved_seconds(program: &[String], t: &Tables, times: u32, what: usize) -> f64 {
+    let input = case(t, times, what as u16);
     let began = Instant::now();
     let mut child = Command::new(&program[0]).args(&program[1..]).stdin(Stdio::piped()).stdout(Stdio::piped()).spawn().expect("the program");
     child.stdin.take().unwrap().write_all(&input).expect("its input");
     let out = child.wait_with_output().expect("its output");
     let took = began.elapsed().as_secs_f64();
-    assert_eq!(String::from_utf8_lossy(&out.stdout).trim(), "0", "the proved judge says the tables are legal");
+    let wanted = (100 * counted(what, t.d.rows[1])).to_string();
+    assert_eq!(String::from_utf8_lossy(&out.stdout).trim(), wanted, "the proved program's answer: {}", WHAT[what]);
     took
 }
 
-fn rust_seconds(t: &Tables, times: u32) -> f64 {
+fn judge_seconds(t: &Tables, times: u32) -> f64 {
     let mut room = judge::Room::new(&t.d);
     let began = Instant::now();
     let mut yes = 0;
     for _ in 0..times {
-        yes += judge::judge(std::hint::black_box(&t.d), std::hint::black_box(&t.values), std::hint::black_box(&t.classes), &mut room) as u32;
+        yes += judge::judge(black_box(&t.d), black_box(&t.values), black_box(&t.classes), &mut room) as u32;
     }
     let took = began.elapsed().as_secs_f64();
     assert_eq!(yes, times, "the Rust judge says the tables are legal");
     took
 }
 
+// Each statement on the tables as they came, as the proved program does it.
+fn statement_seconds(t: &Tables, times: u32, what: usize) -> f64 {
+    let mut room = judge::Room::new(&t.d);
+    let (mut values, mut classes) = (t.values.clone(), t.classes.clone());
+    let (mut shown, mut owners) = (Vec::with_capacity(8192), Vec::with_capacity(9216));
+    let began = Instant::now();
+    let mut counts = 0;
+    for _ in 0..times {
+        values.copy_from_slice(black_box(&t.values));
+        classes.copy_from_slice(black_box(&t.classes));
+        shown.clear();
+        owners.clear();
+        let mut tables = statements::Tables { d: black_box(&t.d), values: &mut values, classes: &mut classes };
+        counts += statements::run(&mut tables, &mut room, black_box(&statement(what)), &mut shown, &mut owners).expect("done");
+        black_box((&shown, &owners));
+    }
+    let took = began.elapsed().as_secs_f64();
+    assert_eq!(counts, counted(what, t.d.rows[1]) * times as usize, "the Rust program's count: {}", WHAT[what]);
+    took
+}
+
+fn rust_seconds(t: &Tables, times: u32, what: usize) -> f64 {
+    if what == 0 {
+        judge_seconds(t, times)
+    } else {
+        statement_seconds(t, times, what)
+    }
+}
+
 // Microseconds of one call, of both, over alternating rounds: the least of each, since whatever else the machine does can only add to it.
-fn compare(program: &[String], t: &Tables) -> (f64, f64) {
+fn compare(program: &[String], t: &Tables, what: usize) -> (f64, f64) {
     let (few, many) = (100, 2100);
     let (mut base, mut whole, mut rust) = (f64::MAX, f64::MAX, f64::MAX);
     for _ in 0..25 {
-        base = base.min(proved_seconds(program, t, few));
-        whole = whole.min(proved_seconds(program, t, many));
-        rust = rust.min(rust_seconds(t, many - few));
+        base = base.min(proved_seconds(program, t, few, what));
+        whole = whole.min(proved_seconds(program, t, many, what));
+        rust = rust.min(rust_seconds(t, many - few, what));
     }
     let calls = (many - few) as f64;
     ((whole - base) / calls * 1e6, rust / calls * 1e6)
 }
 
-// Two small cases, legal tables and the same with one borrowed value changed: what the program's own check is run on.
+// Small cases: legal tables, the same with one borrowed value changed, and each statement: what the program's own check is run on.
 fn sample() {
     let mut t = full(Order::Sets, 2, 2, true, Lending::Lowest);
-    let mut bytes = case(&t, 2);
+    let mut bytes = case(&t, 2, 0);
     t.values[17] += 1;
-    bytes.extend(case(&t, 3));
+    bytes.extend(case(&t, 3, 0));
+    let t = full(Order::Ranks, 1, 4, false, Lending::Lowest);
+    for what in 1..5 {
+        bytes.extend(case(&t, 2, what));
+    }
     std::io::stdout().write_all(&bytes).expect("standard output");
+}
+
+fn report(program: &[String], t: &Tables, what: usize) {
+    let (proved, rust) = compare(program, t, what);
+    println!("{:>6}  {:>9.1}  {:>9.1}  {:>6.2}  {}: {}", t.values.len(), proved, rust, proved / rust, WHAT[what], t.name);
 }
 
 fn main() {
@@ -59,18 +123,15 @@ fn main() {
     if program.is_empty() {
         return sample();
     }
-    let mut all = Vec::new();
+    println!("{:>6}  {:>9}  {:>9}  {:>6}  what: tables", "cells", "proved us", "Rust us", "ratio");
     for lending in [Lending::Lowest, Lending::Shuffled, Lending::Many] {
-        all.push(full(Order::Sets, 8, 8, true, lending));
-        all.push(full(Order::Ranks, 1, 64, false, lending));
+        report(&program, &full(Order::Sets, 8, 8, true, lending), 0);
+        report(&program, &full(Order::Ranks, 1, 64, false, lending), 0);
     }
-    all.push(full(Order::Sets, 8, 2, true, Lending::Lowest));
-    all.push(full(Order::Sets, 2, 2, true, Lending::Lowest));
-    all.push(full(Order::Ranks, 1, 16, false, Lending::Lowest));
-    all.push(full(Order::Ranks, 1, 4, false, Lending::Lowest));
-    println!("{:>6}  {:>9}  {:>9}  {:>6}  tables", "cells", "proved us", "Rust us", "ratio");
-    for t in &all {
-        let (proved, rust) = compare(&program, t);
-        println!("{:>6}  {:>9.1}  {:>9.1}  {:>6.2}  {}", t.values.len(), proved, rust, proved / rust, t.name);
+    for (order, relations, rows) in [(Order::Sets, 8, 2), (Order::Sets, 2, 2), (Order::Ranks, 1, 16), (Order::Ranks, 1, 4)] {
+        report(&program, &full(order, relations, rows, order == Order::Sets, Lending::Lowest), 0);
+    }
+    for what in 1..5 {
+        report(&program, &full(Order::Ranks, 1, 64, false, Lending::Lowest), what);
     }
 }

@@ -72,8 +72,8 @@ pub fn full(order: Order, relations: usize, rows: usize, refer: bool, lending: L
     Tables { name, d, values, classes }
 }
 
-// The tables as a case of the program `timing`: 220 numbers of two bytes, then values and classes.
-pub fn case(t: &Tables, times: u32) -> Vec<u8> {
+// The tables as a case of the program `timing`: 221 numbers of two bytes, then values and classes. `what` is 0 to judge, 1 to 4 a statement.
+pub fn case(t: &Tables, times: u32, what: u16) -> Vec<u8> {
     let mut words: Vec<u16> = Vec::new();
     let fill = |words: &mut Vec<u16>, xs: &[usize], n: usize| {
         for i in 0..n {
@@ -92,6 +92,7 @@ pub fn case(t: &Tables, times: u32) -> Vec<u8> {
     words.push(t.classes.len() as u16);
     words.push((times % 65536) as u16);
     words.push((times / 65536) as u16);
+    words.push(what);
     let mut bytes: Vec<u8> = words.iter().flat_map(|w| w.to_le_bytes()).collect();
     bytes.extend(t.values.iter().flat_map(|v| v.to_le_bytes()));
     bytes.extend(&t.classes);

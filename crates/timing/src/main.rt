@@ -1,9 +1,15 @@
 ghost use Prim.Native.Nat.{_≤_};
-// Judges the cases that stand in its input, each as often as it says, and prints the judge's number for each. `bench/run` times it.
-// A case is 220 numbers of two bytes, low byte first: the description field by field, how many values and how many classes follow, and how
-// often to judge (low half first); then the values of four bytes each, and the classes.
+// Does what the cases in its input ask, each as often as it says, and prints for each what was answered last: the number of a verdict or of a
+// refusal, or 100 times the count of a statement that was done. `bench/run` times it.
+// A case is 221 numbers of two bytes, low byte first: the description field by field, how many values and how many classes follow, how often
+// to do it (low half first), and what: 0 to judge, 1 to 4 a statement on relation 1, each time on the tables as they came. Then follow the
+// values of four bytes each, and the classes.
+use model::Answer;
 use model::Description;
+use model::Fault;
+use model::Statement;
 use model::Verdict;
+use model::What;
 
 // The number of two bytes.
 fn pair(low: u8, high: u8) -> u16 {
@@ -12,7 +18,7 @@ fn pair(low: u8, high: u8) -> u16 {
 
 // The number at a place, counted in numbers; 0 behind the end.
 fn word(bytes: &[u8], place: usize) -> u16 {
-    if 220 <= place {
+    if 221 <= place {
         return 0;
     }
     let at = place * 2;
@@ -98,15 +104,280 @@ fn number(verdict: Verdict) -> u64 {
     }
 }
 
+fn fault(fault: Fault) -> u64 {
+    match fault {
+        Fault::Description => 1,
+        Fault::Length => 2,
+        Fault::Illegal => 3,
+        Fault::Malformed => 4,
+        Fault::Unseen => 5,
+        Fault::Range => 6,
+        Fault::Absent => 7,
+        Fault::Several => 8,
+        Fault::Taken => 9,
+        Fault::KeyClass => 10,
+        Fault::Reference => 11,
+        Fault::Referred => 12,
+        Fault::Full => 13,
+        Fault::Short => 14,
+    }
+}
+
+// The number answered, and 100 times the count.
+fn told(answer: Answer) -> u64 {
+    match answer {
+        Answer::Done { count } => count as u64 * 100,
+        Answer::Refused(why) => fault(why),
+    }
+}
+
 // Judges the same tables some times over; the last verdict's number.
 fn judged(description: Description, values: &[u32], classes: &[u8], times: u32) -> u64 {
     let mut last = 4;
     let mut left = times;
     while 0 < left {
-        last = number(judge::judge(description, values, classes));
+        last = number(register::judge(description, values, classes));
         left -= 1;
     }
     last
+}
+
+// The values that `to` has room for are stored there.
+fn copy_values(from: &[u32], to: &mut [u32]) {
+    let mut i = 0;
+    while i < to.len() {
+        if from.len() <= i {
+            return;
+        }
+        to[i] = from[i];
+        i += 1;
+    }
+}
+
+fn copy_classes(from: &[u8], to: &mut [u8]) {
+    let mut i = 0;
+    while i < to.len() {
+        if from.len() <= i {
+            return;
+        }
+        to[i] = from[i];
+        i += 1;
+    }
+}
+
+// A statement on relation 1; what it is answered.
+fn run(
+    description: Description,
+    values: &mut [u32],
+    classes: &mut [u8],
+    shown: &mut [u32],
+    owners: &mut [u8],
+    level: u16,
+    what: What,
+    list: &[u32],
+    conditions: &[u32],
+) -> u64 {
+    let statement = Statement {
+        level: level,
+        relation: 1,
+        what: what,
+    };
+    told(register::run(
+        description,
+        values,
+        classes,
+        statement,
+        list,
+        conditions,
+        shown,
+        owners,
+    ))
+}
+
+// DELETE of every row of level 0.
+fn delete(
+    description: Description,
+    values: &mut [u32],
+    classes: &mut [u8],
+    shown: &mut [u32],
+    owners: &mut [u8],
+) -> u64 {
+    let none = [0u32; 1];
+    let free = [0u32; 1];
+    run(
+        description,
+        values,
+        classes,
+        shown,
+        owners,
+        0,
+        What::Delete,
+        &none[..0],
+        &free[..0],
+    )
+}
+
+// UPDATE of seven columns of every row of level 0.
+fn update(
+    description: Description,
+    values: &mut [u32],
+    classes: &mut [u8],
+    shown: &mut [u32],
+    owners: &mut [u8],
+) -> u64 {
+    let none = [0u32; 1];
+    let set = [2, 5, 3, 5, 4, 5, 5, 5, 6, 5, 7, 5, 8, 5];
+    run(
+        description,
+        values,
+        classes,
+        shown,
+        owners,
+        0,
+        What::Update,
+        &set,
+        &none[..0],
+    )
+}
+
+// UPLEVEL of key 1001 at level 15 with seven columns FROM level 0.
+fn uplevel(
+    description: Description,
+    values: &mut [u32],
+    classes: &mut [u8],
+    shown: &mut [u32],
+    owners: &mut [u8],
+) -> u64 {
+    let none = [0u32; 1];
+    let from = [2, 0, 3, 0, 4, 0, 5, 0, 6, 0, 7, 0, 8, 0];
+    let what = What::Uplevel {
+        key: 1001,
+        class: 255,
+    };
+    run(
+        description,
+        values,
+        classes,
+        shown,
+        owners,
+        15,
+        what,
+        &from,
+        &none[..0],
+    )
+}
+
+// SELECT at level 15 of every row of the sixteen levels under four conditions.
+fn select(
+    description: Description,
+    values: &mut [u32],
+    classes: &mut [u8],
+    shown: &mut [u32],
+    owners: &mut [u8],
+) -> u64 {
+    let at = [15, 14, 13, 12, 11, 10, 9, 8, 7, 6, 5, 4, 3, 2, 1, 0];
+    let conditions = [1, 0, 2, 1, 1, 1, 4, 15, 2, 0, 3, 4000000000, 3, 0, 2, 7];
+    run(
+        description,
+        values,
+        classes,
+        shown,
+        owners,
+        15,
+        What::Select,
+        &at,
+        &conditions,
+    )
+}
+
+// One of the four.
+fn ask(
+    description: Description,
+    values: &mut [u32],
+    classes: &mut [u8],
+    shown: &mut [u32],
+    owners: &mut [u8],
+    kind: u16,
+) -> u64 {
+    match kind {
+        1 => delete(description, values, classes, shown, owners),
+        2 => update(description, values, classes, shown, owners),
+        3 => uplevel(description, values, classes, shown, owners),
+        _ => select(description, values, classes, shown, owners),
+    }
+}
+
+// One statement on the tables as they came.
+fn asked(
+    description: Description,
+    values: &[u32],
+    classes: &[u8],
+    room: &mut [u32],
+    space: &mut [u8],
+    shown: &mut [u32],
+    owners: &mut [u8],
+    kind: u16,
+) -> u64 {
+    copy_values(values, room);
+    copy_classes(classes, space);
+    ask(description, room, space, shown, owners, kind)
+}
+
+// The same some times over; what the last was answered.
+fn repeated(
+    description: Description,
+    values: &[u32],
+    classes: &[u8],
+    room: &mut [u32],
+    space: &mut [u8],
+    shown: &mut [u32],
+    owners: &mut [u8],
+    kind: u16,
+    times: u32,
+) -> u64 {
+    let mut last = 0;
+    let mut left = times;
+    while 0 < left {
+        last = asked(
+            description,
+            values,
+            classes,
+            room,
+            space,
+            shown,
+            owners,
+            kind,
+        );
+        left -= 1;
+    }
+    last
+}
+
+// With room for tables and for what is shown.
+fn lent(description: Description, values: &[u32], classes: &[u8], kind: u16, times: u32) -> u64 {
+    let mut room = [0u32; 8200];
+    let mut space = [0u8; 8200];
+    let mut shown = [0u32; 8192];
+    let mut owners = [0u8; 9216];
+    let n = values.len();
+    if 8200 < n {
+        return 0;
+    }
+    let m = classes.len();
+    if 8200 < m {
+        return 0;
+    }
+    repeated(
+        description,
+        values,
+        classes,
+        &mut room[..n],
+        &mut space[..m],
+        &mut shown,
+        &mut owners,
+        kind,
+        times,
+    )
 }
 
 // Reads bytes and stores the values that they are.
@@ -126,17 +397,26 @@ fn read_values(values: &mut [u32]) {
     fill(&mut bytes[..end], values);
 }
 
-// Reads a case's tables and judges them.
-fn work(values: &mut [u32], classes: &mut [u8], description: Description, times: u32) -> u64 {
+// Reads a case's tables and does what it asks.
+fn work(
+    values: &mut [u32],
+    classes: &mut [u8],
+    description: Description,
+    kind: u16,
+    times: u32,
+) -> u64 {
     read_values(values);
     io::read_full(0, classes);
-    judged(description, values, classes, times)
+    if kind == 0 {
+        return judged(description, values, classes, times);
+    }
+    lent(description, values, classes, kind, times)
 }
 
-// Reads one case, judges it and prints the number; false where the input ends or the case is too large.
+// Reads one case, does what it asks and prints the answer; false where the input ends or the case is too large.
 fn turn() -> bool {
-    let mut header = [0u8; 440];
-    if io::read_full(0, &mut header) < 440 {
+    let mut header = [0u8; 442];
+    if io::read_full(0, &mut header) < 442 {
         return false;
     }
     let n = word(&header, 216) as usize;
@@ -148,12 +428,19 @@ fn turn() -> bool {
         return false;
     }
     let times = word(&header, 218) as u32 + word(&header, 219) as u32 * 65536;
+    let kind = word(&header, 220);
     let description = described(&header);
     let mut values = [0u32; 8200];
     let mut classes = [0u8; 8200];
     io::print_decimal(
         1,
-        work(&mut values[..n], &mut classes[..m], description, times),
+        work(
+            &mut values[..n],
+            &mut classes[..m],
+            description,
+            kind,
+            times,
+        ),
     );
     io::write_all(1, b"\n")
 }

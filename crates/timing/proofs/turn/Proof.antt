@@ -52,6 +52,12 @@ slice-aggregate-word-4 c = search needs
 word-requires-4 : tie.Need-word-requires-4
 word-requires-4 c κs = search needs
 
+slice-aggregate-word-5 : tie.Need-slice-aggregate-word-5
+slice-aggregate-word-5 c = search needs
+
+word-requires-5 : tie.Need-word-requires-5
+word-requires-5 c κs = search needs
+
 cast-times-2 : tie.Need-cast-times-2
 cast-times-2 c = search needs
 
@@ -117,6 +123,8 @@ turn-spec =
     cast-times-2
     mul-times
     add-times
+    slice-aggregate-word-5
+    word-requires-5
     slice-aggregate-described
     described-requires
     array-borrow-prefix-values
