@@ -154,7 +154,7 @@ givenBy d r P c S l =
 
 -- ---- the whole
 
--- a sound description, its order, legal tables, a relation and a level
+-- a sound description, its order, a relation and a level; and what is used of legal tables: nothing outside, and no key twice at a level
 pub record Working (d : Description) (order : List (List Bool)) (r c : ℕ) (S : State) : Type 0 where
   pub sound-is : sound d ≡ true
   pub order-is : order ≡ orderOf (d .labels) (d .levels)
@@ -164,7 +164,7 @@ pub record Working (d : Description) (order : List (List Bool)) (r c : ℕ) (S :
   pub beyond : (s l i k : ℕ) → between 1 (columnCount d s) k ≡ false → S l .rows s i k ≡ nocell
   pub one-row : (s l i j : ℕ) → S l .rows s i 1 .value ≢ 0 → S l .rows s i 1 .value ≡ S l .rows s j 1 .value → i ≡ j
 
--- a plan: rows in use are marked, a cell of the subject's class that is taken is the subject's, and no key is taken
+-- a plan: only rows in use are marked, a cell of the subject's class that is taken is the subject's, and no key is taken
 pub record Planned (d : Description) (r c : ℕ) (P : Plan) (B : ℕ → Row) : Type 0 where
   pub marks : length (P .marks) ≡ 64
   pub values : length (P .values) ≡ 9

@@ -37,7 +37,7 @@ kindListed list k = if lists list k then 1 else 0
 
 -- ---- rows that are marked
 
--- marks of rows in use, and of no other
+-- only rows in use are marked, and none past the last
 pub record Chosen (n : ℕ) (B : ℕ → Row) (marks : List Bool) : Type 0 where
   pub long : length marks ≡ 64
   pub real : (i : ℕ) → i < n → getD marks i false ≡ true → B i 1 .value ≢ 0

@@ -54,7 +54,7 @@ classSeen d c class = eqb class 255 || over d c class
 unfoldable pub levelsSeen : Description → ℕ → ℕ → List ℕ → Bool
 levelsSeen d c class list = classSeen d c class && each (λ k a. over d c a) list
 
--- the tests after an entity is looked for: whether it is there, whether it is the only one, and the others
+-- the tests of an entity that is there and is the only one
 unfoldable pub laterTests : Description → ℕ → ℕ → Cell → List ℕ → State → List (Bool × Fault)
 laterTests d c r entity list S =
     let T = rowsOf S in
@@ -68,6 +68,7 @@ laterTests d c r entity list S =
 unfoldable pub severalBased : Description → ℕ → ℕ → ℕ → ℕ → Tables → Bool
 severalBased d c r key class T = eqb class 255 && not (leb (countBelow (d .levels) (based d c r key T)) 1)
 
+-- the tests of an entity that was looked for: whether it is there, whether it is the only one, and the others
 unfoldable pub entityTests : Description → ℕ → ℕ → ℕ → Cell → List ℕ → State → List (Bool × Fault)
 entityTests d c r class entity list S =
     (based d c r (entity .value) (rowsOf S) (entity .class), Faults.Absent)
