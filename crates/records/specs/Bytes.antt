@@ -1,0 +1,28 @@
+-- Numbers in bytes: "records, little-endian" (01, "mlrun"). A byte behind the end counts 0.
+-- Assumes nothing: these are definitions.
+use Prim.Native.Nat.{ℕ, _+_, _*_}
+use mathlib.Core.List.{List, [], _∷_}
+use lib.ListN.{getD}
+use Rattle.bounded.specs.Lists.{listBelow, concatBelow}
+
+-- "All fields are two bytes"
+unfoldable pub pair : List ℕ → ℕ → ℕ
+pair bytes at = getD bytes at 0 + 256 * getD bytes (at + 1) 0
+
+-- "but values, keys and constants (four)"
+unfoldable pub quad : List ℕ → ℕ → ℕ
+quad bytes at = pair bytes at + 65536 * pair bytes (at + 2)
+
+-- n fields of two bytes from a place on
+unfoldable pub fieldsFrom : List ℕ → ℕ → ℕ → List ℕ
+fieldsFrom bytes at n = listBelow n (λ i. pair bytes (at + 2 * i))
+
+-- "n of (column, value)"
+unfoldable pub cellsFrom : List ℕ → ℕ → ℕ → List ℕ
+cellsFrom bytes at n = concatBelow n (λ i. pair bytes (at + 6 * i) ∷ quad bytes (at + 6 * i + 2) ∷ [])
+
+-- "n of (column, 0 value or 1 class, test, constant)"
+unfoldable pub testsFrom : List ℕ → ℕ → ℕ → List ℕ
+testsFrom bytes at n =
+    concatBelow n (λ i.
+    pair bytes (at + 10 * i) ∷ pair bytes (at + 10 * i + 2) ∷ pair bytes (at + 10 * i + 4) ∷ quad bytes (at + 10 * i + 6) ∷ [])
