@@ -1,0 +1,257 @@
+// One record of mlrun's stream: what it does to what is kept, and what it prints.
+use model::Description;
+use model::Statement;
+use placing::place;
+use records::Read;
+use records::describe;
+use records::statement::statement;
+ghost use mathlib.Core.Path.{_≡_};
+ghost use mathlib.Core.List.{List};
+ghost use Prim.Native.Nat.{ℕ, _≤_};
+ghost use lib.ListN.{length, replicate};
+ghost use Rattle.model.specs.Description.{columnCount};
+ghost use Rattle.stream.specs.Step.{cellsOf, refuses, labelsTurn, relationTurn, rowTurn, statementTurn, step as stepOf};
+ghost use Rattle.stream.specs.Facts.{holds, Took};
+
+// What is known after a record, beside the buffers.
+pub struct Stepped {
+    // whether the next record is read
+    pub goes: bool,
+    // how many bytes are printed
+    pub printed: usize,
+    // the kind of the last record
+    pub last: u16,
+    pub description: Description,
+}
+
+// The record is refused.
+fn refuse(text: &mut [u8], description: Description, last: u16, number: u64) -> Stepped
+    ensures { λ r. ⌜ ((values classes : List ℕ) → Took (refuses (holds last description values classes) number) (now (text .entry)) values classes (now (text .exit)) r) ⌝ }
+{
+    let printed = lines::refusal(text, number);
+    Stepped { goes: false, printed, last, description }
+}
+
+// A record of kind 1.
+fn labels(
+    bytes: &[u8],
+    text: &mut [u8],
+    description: Description,
+    last: u16,
+    number: u64,
+) -> Stepped
+    ensures { λ r. ⌜ ((values classes : List ℕ) → Took (labelsTurn (holds last description values classes) number (now (bytes .entry))) (now (text .entry)) values classes (now (text .exit)) r) ⌝ }
+{
+    if !describe::is_labels(bytes) {
+        return refuse(text, description, last, number);
+    }
+    let description = describe::labels(bytes, description);
+    Stepped { goes: true, printed: 0, last: 1, description }
+}
+
+// A record of kind 2.
+fn relation(
+    bytes: &[u8],
+    text: &mut [u8],
+    description: Description,
+    last: u16,
+    number: u64,
+) -> Stepped
+    ensures { λ r. ⌜ ((values classes : List ℕ) → Took (relationTurn (holds last description values classes) number (now (bytes .entry))) (now (text .entry)) values classes (now (text .exit)) r) ⌝ }
+{
+    if !describe::is_relation(bytes) {
+        return refuse(text, description, last, number);
+    }
+    let description = describe::relation(bytes, description);
+    Stepped { goes: true, printed: 0, last: 2, description }
+}
+
+// How many cells the tables take; a description that breaks a rule has none.
+fn extent(description: Description) -> usize
+    ensures { λ r. ⌜ (r ≡ cellsOf description) × (r ≤ 8192) ⌝ }
+{
+    if !judge::sound(description) {
+        return 0;
+    }
+    let last = description.relations as usize;
+    let part = cells::layout::lay(description, last);
+    let levels = description.levels as usize;
+    part.start + levels * part.rows * part.columns
+}
+
+// A record of kind 3.
+fn row(
+    bytes: &[u8],
+    values: &mut [u32],
+    classes: &mut [u8],
+    text: &mut [u8],
+    description: Description,
+    last: u16,
+    number: u64,
+) -> Stepped
+    ensures { λ r. ⌜ Took (rowTurn (holds last description (now (values .entry)) (now (classes .entry))) number (now (bytes .entry))) (now (text .entry)) (now (values .exit)) (now (classes .exit)) (now (text .exit)) r ⌝ }
+{
+    let extent = extent(description);
+    if values.len() < extent {
+        return refuse(text, description, last, number);
+    }
+    if classes.len() < extent {
+        return refuse(text, description, last, number);
+    }
+    if !place(bytes, &mut values[..extent], &mut classes[..extent], description) {
+        return refuse(text, description, last, number);
+    }
+    Stepped { goes: true, printed: 0, last: 3, description }
+}
+
+// The lesser of two.
+fn least(a: usize, b: usize) -> usize
+    ensures { λ r. ⌜ (r ≤ a) × (r ≤ b) ⌝ }
+{
+    if a < b { a } else { b }
+}
+
+// How many columns a relation has; none where it doesn't exist.
+fn columns(description: Description, relation: u16) -> u16
+    ensures { λ r. ⌜ r ≡ columnCount description relation ⌝ }
+{
+    if relation < 1 {
+        return 0;
+    }
+    if description.relations < relation {
+        return 0;
+    }
+    if 9 <= relation {
+        return 0;
+    }
+    let at = relation as usize;
+    description.columns[at]
+}
+
+// The statement is run on the tables, and answered.
+fn answer(
+    list: &[u32],
+    conditions: &[u32],
+    values: &mut [u32],
+    classes: &mut [u8],
+    shown: &mut [u32],
+    owners: &mut [u8],
+    text: &mut [u8],
+    description: Description,
+    statement: Statement,
+    kind: u16,
+) -> Stepped
+{
+    let extent = extent(description);
+    let a = least(extent, values.len());
+    let b = least(extent, classes.len());
+    let answer = register::run(
+        description,
+        &mut values[..a],
+        &mut classes[..b],
+        statement,
+        list,
+        conditions,
+        shown,
+        owners,
+    );
+    let what = statement.what;
+    let relation = statement.relation;
+    let columns = columns(description, relation);
+    let printed = lines::answer(shown, owners, text, what, answer, columns);
+    Stepped { goes: true, printed, last: kind, description }
+}
+
+// The record is read to a statement, which is run, or to its place of refusal.
+fn carry(
+    bytes: &[u8],
+    values: &mut [u32],
+    classes: &mut [u8],
+    text: &mut [u8],
+    list: &mut [u32; 512],
+    conditions: &mut [u32; 512],
+    shown: &mut [u32],
+    owners: &mut [u8],
+    description: Description,
+    last: u16,
+    kind: u16,
+    number: u64,
+) -> Stepped
+{
+    let Read::Statement { statement, listed, tested } = statement(bytes, list, conditions, number) else {
+        return refuse(text, description, last, number);
+    };
+    answer(
+        &list[..listed],
+        &conditions[..tested],
+        values,
+        classes,
+        shown,
+        owners,
+        text,
+        description,
+        statement,
+        kind,
+    )
+}
+
+// A statement's record, with buffers for its lists and its rows.
+fn call(
+    bytes: &[u8],
+    values: &mut [u32],
+    classes: &mut [u8],
+    text: &mut [u8],
+    description: Description,
+    last: u16,
+    kind: u16,
+    number: u64,
+) -> Stepped
+    ensures { λ r. ⌜ Took (statementTurn (holds last description (now (values .entry)) (now (classes .entry))) kind number (now (bytes .entry))) (now (text .entry)) (now (values .exit)) (now (classes .exit)) (now (text .exit)) r ⌝ }
+{
+    let mut list = [0u32; 512];
+    let mut conditions = [0u32; 512];
+    let mut shown = [0u32; 8192];
+    let mut owners = [0u8; 9216];
+    carry(
+        bytes,
+        values,
+        classes,
+        text,
+        &mut list,
+        &mut conditions,
+        &mut shown,
+        &mut owners,
+        description,
+        last,
+        kind,
+        number,
+    )
+}
+
+// One record, by its kind.
+pub fn step(
+    bytes: &[u8],
+    values: &mut [u32],
+    classes: &mut [u8],
+    text: &mut [u8],
+    description: Description,
+    last: u16,
+    number: u64,
+) -> Stepped
+    ensures { λ r. ⌜ Took (stepOf (holds last description (now (values .entry)) (now (classes .entry))) number (now (bytes .entry))) (now (text .entry)) (now (values .exit)) (now (classes .exit)) (now (text .exit)) r ⌝ }
+{
+    let kind = records::whole::kind(bytes, last);
+    if kind == 0 {
+        return refuse(text, description, last, number);
+    }
+    if kind == 1 {
+        return labels(bytes, text, description, last, number);
+    }
+    if kind == 2 {
+        return relation(bytes, text, description, last, number);
+    }
+    if kind == 3 {
+        return row(bytes, values, classes, text, description, last, number);
+    }
+    call(bytes, values, classes, text, description, last, kind, number)
+}
