@@ -87,6 +87,9 @@ impl<'a> Line<'a> {
                 self.step();
                 Ok(number)
             }
+            Some(number) if piece.sort == Sort::Name => {
+                Err(self.fault(format!("'{}' is {number}, which is too large; expected {what}, at most {most}", piece.text)))
+            }
             _ => Err(self.fault(format!("{} is too large; expected {what}, at most {most}", piece.text))),
         }
     }
