@@ -1,6 +1,7 @@
 // A judge of tables in one pass, the opponent that the proved judge is timed against: order and ranges laid out once, keys in a hash, each
 // lender's row looked up once per row and class. Written for speed, in Rust with its standard library alone.
 
+#[derive(Clone)]
 pub struct Description {
     pub levels: usize,
     pub labels: Vec<u16>,

@@ -1,9 +1,10 @@
-// Times the proved judge and the proved statements beside Rust programs that do the same, in one run and on the same tables. `bench/run`
-// builds and calls it with the program `timing`, which does a thing as often as its input says; the time of one call is the difference of two
-// runs.
+// Times the proved judge, the proved statements and `mlrun` beside Rust programs that do the same, in one run and on the same tables.
+// `bench/run` builds it and calls it with the program `timing`, which does a thing as often as its input says, and with `mlrun`; the time of
+// one call is the difference of two runs.
 
 mod judge;
 mod statements;
+mod stream;
 mod tables;
 
 use statements::{Kind, Statement};
@@ -118,11 +119,52 @@ fn report(program: &[String], t: &Tables, what: usize) {
     println!("{:>6}  {:>9.1}  {:>9.1}  {:>6.2}  {}: {}", t.values.len(), proved, rust, proved / rust, WHAT[what], t.name);
 }
 
+// `mlrun` on the tables and then a statement so often: how long it took, and what it printed.
+fn mlrun_seconds(mlrun: &str, t: &Tables, times: usize, what: usize) -> (f64, String) {
+    let mut input = stream::opening(t);
+    input.extend(stream::statement(&statement(what)).repeat(times));
+    let file = std::env::temp_dir().join(format!("bench-{}.records", std::process::id()));
+    std::fs::write(&file, &input).expect("a file for the stream");
+    let began = Instant::now();
+    let out = Command::new(mlrun).stdin(std::fs::File::open(&file).expect("the stream")).output().expect("mlrun");
+    let took = began.elapsed().as_secs_f64();
+    std::fs::remove_file(&file).expect("the stream");
+    (took, String::from_utf8(out.stdout).expect("text"))
+}
+
+// The Rust program on the same statements.
+fn serve_seconds(t: &Tables, times: usize, what: usize) -> (f64, String) {
+    let records = stream::statement(&statement(what)).repeat(times);
+    let mut room = judge::Room::new(&t.d);
+    let mut tables = t.clone();
+    let mut text = String::new();
+    let began = Instant::now();
+    stream::serve(&mut tables, &mut room, black_box(&records), &mut text);
+    (began.elapsed().as_secs_f64(), text)
+}
+
+// Microseconds of one statement through `mlrun` and through the Rust program, least of several rounds, as above.
+fn report_mlrun(mlrun: &str, t: &Tables, what: usize) {
+    let (few, many) = (50, 1050);
+    let (mut base, mut whole, mut rust) = (f64::MAX, f64::MAX, f64::MAX);
+    for _ in 0..15 {
+        base = base.min(mlrun_seconds(mlrun, t, few, what).0);
+        let (took, printed) = mlrun_seconds(mlrun, t, many, what);
+        whole = whole.min(took);
+        let (took, wanted) = serve_seconds(t, many, what);
+        rust = rust.min(took);
+        assert_eq!(printed, wanted, "both print the same: {}", WHAT[what]);
+    }
+    let (proved, rust) = ((whole - base) / (many - few) as f64 * 1e6, rust / many as f64 * 1e6);
+    println!("{:>6}  {:>9.1}  {:>9.1}  {:>6.2}  through mlrun, {}", t.values.len(), proved, rust, proved / rust, WHAT[what]);
+}
+
 fn main() {
-    let program: Vec<String> = std::env::args().skip(1).collect();
-    if program.is_empty() {
+    let arguments: Vec<String> = std::env::args().skip(1).collect();
+    if arguments.is_empty() {
         return sample();
     }
+    let (mlrun, program) = (arguments[0].clone(), arguments[1..].to_vec());
     println!("{:>6}  {:>9}  {:>9}  {:>6}  what: tables", "cells", "proved us", "Rust us", "ratio");
     for lending in [Lending::Lowest, Lending::Shuffled, Lending::Many] {
         report(&program, &full(Order::Sets, 8, 8, true, lending), 0);
@@ -133,5 +175,8 @@ fn main() {
     }
     for what in 1..5 {
         report(&program, &full(Order::Ranks, 1, 64, false, Lending::Lowest), what);
+    }
+    for what in 2..5 {
+        report_mlrun(&mlrun, &full(Order::Ranks, 1, 64, false, Lending::Lowest), what);
     }
 }

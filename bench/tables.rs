@@ -2,6 +2,7 @@
 
 use crate::judge::Description;
 
+#[derive(Clone)]
 pub struct Tables {
     pub name: String,
     pub d: Description,
