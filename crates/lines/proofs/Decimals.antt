@@ -1,0 +1,50 @@
+-- The laws of a number's decimal digits: how they go on from those of a tenth, and how many they are.
+-- Assumes nothing.
+use mathlib.Core.Path.{_≡_, refl}
+use mathlib.Core.List.{List, [], _∷_, _++_}
+use mathlib.Core.Bool.{true, false}
+use Prim.Native.Nat.{ℕ, zero, suc, _/_, _%_, _≤_, _<_, _^_}
+use native.Mathlib.Nat.{not-suc-le-zero, pow-suc}
+use native.Mathlib.Omega.{arith}
+use borrow.Author.Tests.{lt-ltb, le-ltb, ltb-true, ltb-false}
+use lib.Dec.{ltb}
+use lib.ListN.{length, length-append}
+use Rattle.bounded.proofs.Cases.{cases}
+use Rattle.lines.specs.Text.{digit, digitsIn, decimal}
+
+-- any number of turns that is enough gives the same digits
+enough : (t u n : ℕ) → n < t → n < u → digitsIn t n ≡ digitsIn u n
+unfolding digitsIn
+enough zero u n h k = absurd (not-suc-le-zero h)
+enough (suc t) zero n h k = absurd (not-suc-le-zero k)
+enough (suc t) (suc u) n h k =
+    cases (ltb n 10)
+    (λ p. rw p)
+    (λ p.
+    let m : 10 ≤ n = ltb-false n 10 p in
+    rw (p, enough t u (n / 10) (omega arith) (omega arith)))
+
+pub decimal-one : (n : ℕ) → n < 10 → decimal n ≡ digit n ∷ []
+unfolding decimal digitsIn
+decimal-one n h = simp (lt-ltb n 10 h)
+
+pub decimal-more : (n : ℕ) → 10 ≤ n → decimal n ≡ decimal (n / 10) ++ (digit (n % 10) ∷ [])
+unfolding decimal digitsIn
+decimal-more n h =
+    simp (le-ltb n 10 h, enough n (suc (n / 10)) (n / 10) (omega arith) (omega arith))
+
+-- a number below a power of ten has at most as many digits
+short : (k n : ℕ) → n < 10 ^ suc k → length (decimal n) ≤ suc k
+short zero n h = rw (decimal-one n (omega arith)) (omega arith)
+short (suc k) n h =
+    cases (ltb n 10)
+    (λ p. rw (decimal-one n (ltb-true n 10 p)) (omega arith))
+    (λ p.
+    let q : n / 10 < 10 ^ suc k = omega (arith, pow-suc 10 (suc k)) in
+    let i = short k (n / 10) q in
+    rw (decimal-more n (ltb-false n 10 p))
+    (omega (arith, length-append (decimal (n / 10)) (digit (n % 10) ∷ []))))
+
+-- a number of 64 bits has at most 20 digits
+pub decimal-short : (n : ℕ) → n < 2 ^ 64 → length (decimal n) ≤ 20
+decimal-short n h = short 19 n (omega arith)
