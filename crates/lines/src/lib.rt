@@ -1,6 +1,7 @@
 // What is printed for an answer, as bytes into a lent buffer.
 mod digits;
 mod rows;
+
 use digits::head;
 use digits::put;
 use digits::spaced;

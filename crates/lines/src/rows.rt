@@ -67,21 +67,19 @@ fn cells(
     let mut next = at;
     let mut k = 0;
     while k < columns {
-        next = cell(text, next, value(shown, values + k), owner(owners, classes + k));
+        next = cell(
+            text,
+            next,
+            value(shown, values + k),
+            owner(owners, classes + k),
+        );
         k += 1;
     }
     next
 }
 
 // The line of a row: its TC and its cells.
-fn row(
-    shown: &[u32],
-    owners: &[u8],
-    text: &mut [u8],
-    at: usize,
-    columns: usize,
-    i: usize,
-) -> usize
+fn row(shown: &[u32], owners: &[u8], text: &mut [u8], at: usize, columns: usize, i: usize) -> usize
     requires { ⌜ (at < 2 ^ 58) × (columns < 2 ^ 16) × (i < 2 ^ 32) ⌝ }
     ensures { λ r. ⌜ Wrote at (rowLine columns (now (shown .entry)) (now (owners .entry)) i) (now (text .entry)) (now (text .exit)) r × (r ≤ at + 2 ^ 23) ⌝ }
 {

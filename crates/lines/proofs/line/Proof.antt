@@ -1,7 +1,7 @@
 use native.Mathlib.Omega.{arith}
+use borrow.Author.Needs.{needs}
 use Rattle.lines.specs.Lines.{answerLine}
 use Rattle.lines.proofs.Writing.{wrote-on}
-use borrow.Author.Needs.{needs}
 use Rattle.lines.proofs.line.Statement.{statement}
 use Rattle.lines.proofs.line.Tie as tie
 
@@ -40,9 +40,11 @@ same-length c = search needs
 
 returns : tie.Need-returns
 unfolding answerLine
-returns c = 
-    (rw (← (c .before .before .before .before .before .before .before .before .before .before .before .before .before .before .before .before .before .kind .ensures), ← (c .before .before .before .before .before .before .before .before .before .before .before .before .number .ensures), ← (c .before .before .before .before .before .before .before .count .ensures))
-    (wrote-on (c .before .before .before .before .before .before .before .before .before .before .before .before .before .before .before .before .head .ensures .0) (wrote-on (c .before .before .before .before .before .before .before .before .before .before .before .spaced .ensures .0) (wrote-on (c .before .before .before .before .before .before .spaced2 .ensures .0) (c .before .before .put .ensures)))), omega (arith, c .before .before .put .ensures .next-is))
+returns c = (
+  rw (← (c .before .before .before .before .before .before .before .before .before .before .before .before .before .before .before .before .before .kind .ensures), ← (c .before .before .before .before .before .before .before .before .before .before .before .before .number .ensures), ← (c .before .before .before .before .before .before .before .count .ensures))
+      (wrote-on (c .before .before .before .before .before .before .before .before .before .before .before .before .before .before .before .before .head .ensures .0) (wrote-on (c .before .before .before .before .before .before .before .before .before .before .before .spaced .ensures .0) (wrote-on (c .before .before .before .before .before .before .spaced2 .ensures .0) (c .before .before .put .ensures)))),
+  omega (arith, c .before .before .put .ensures .next-is),
+)
 
 pub line-spec : {M : Type 1} → statement M
 line-spec =

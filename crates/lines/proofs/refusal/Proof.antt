@@ -1,6 +1,6 @@
+use borrow.Author.Needs.{needs}
 use Rattle.lines.specs.Lines.{refusalText}
 use Rattle.lines.proofs.Writing.{wrote-on}
-use borrow.Author.Needs.{needs}
 use Rattle.lines.proofs.refusal.Statement.{statement}
 use Rattle.lines.proofs.refusal.Tie as tie
 

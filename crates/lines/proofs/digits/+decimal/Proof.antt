@@ -1,10 +1,10 @@
 -- The measure is the number.
+use Prim.Native.Nat.{ℕ, _<_}
 use mathlib.Core.Path.{_∙_}
 use native.Mathlib.Omega.{arith}
-use Rattle.lines.proofs.Writing.{wrote-one, wrote-digit}
-use Prim.Native.Nat.{ℕ, _<_}
 use borrow.Fn.Kinds.{In}
 use borrow.Fn.PlainCycle.{Measures, is, falls, and}
+use Rattle.lines.proofs.Writing.{wrote-one, wrote-digit}
 use Rattle.lines.proofs.digits.decimal.Reads as decimal
 use Rattle.lines.proofs.digits.decimal.Kinds as decimal-kinds
 use Rattle.lines.proofs.digits.+decimal.Lts-decimal as decimal-lts

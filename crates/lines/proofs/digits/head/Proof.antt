@@ -1,6 +1,6 @@
 use native.Mathlib.Omega.{arith}
-use Rattle.lines.proofs.Writing.{wrote-on}
 use borrow.Author.Needs.{needs}
+use Rattle.lines.proofs.Writing.{wrote-on}
 use Rattle.lines.proofs.digits.head.Statement.{statement}
 use Rattle.lines.proofs.digits.head.Tie as tie
 

@@ -1,7 +1,7 @@
 use native.Mathlib.Omega.{arith}
+use borrow.Author.Needs.{needs}
 use Rattle.lines.specs.Lines.{cellText}
 use Rattle.lines.proofs.Writing.{wrote-on}
-use borrow.Author.Needs.{needs}
 use Rattle.lines.proofs.rows.cell.Statement.{statement}
 use Rattle.lines.proofs.rows.cell.Tie as tie
 

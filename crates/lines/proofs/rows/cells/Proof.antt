@@ -1,7 +1,7 @@
 -- The invariant: the cells of the columns that were passed are written.
-use native.Mathlib.Omega.{arith}
-use mathlib.Core.Path.{_≡_, refl, _∙_}
 use Prim.Native.Nat.{_+_, _*_, _-_, _≤_}
+use mathlib.Core.Path.{_≡_, refl, _∙_}
+use native.Mathlib.Omega.{arith}
 use lib.ListN.{length, getD}
 use Rattle.bounded.specs.Lists.{concatBelow}
 use Rattle.lines.specs.Written.{Wrote}
@@ -11,7 +11,7 @@ use Rattle.lines.proofs.rows.cells.Statement.{statement}
 use Rattle.lines.proofs.rows.cells.Tie as tie
 
 abbrev Inv-loop : tie.InvT-loop
-Inv-loop shown owners text₀ at columns values classes next₀ k₀ text next k = 
+Inv-loop shown owners text₀ at columns values classes next₀ k₀ text next k =
     (k ≤ columns) × (next ≤ at + 64 * k) × (length text ≡ length text₀)
     × Wrote at (concatBelow k (λ j. cellText (getD shown (values + j) 0) (getD owners (classes + j) 0))) text₀ text next
 
@@ -43,7 +43,7 @@ loop-less : tie.Need-loop-less Inv-loop μ-loop
 loop-less c = omega arith
 
 loop-again : tie.Need-loop-again Inv-loop μ-loop
-loop-again c = 
+loop-again c =
     let i = c .before .before .before .before .before .before .before .loop .inv in
     (omega arith, omega arith, c .before .before .cell .kept .0 ∙ i .2, wrote-more _ _ (i .3) (rw (← (c .before .before .before .before .value .ensures), ← (c .before .before .before .owner .ensures)) (c .before .before .cell .ensures .0)))
 
@@ -51,7 +51,7 @@ same-length : tie.Need-same-length Inv-loop μ-loop
 same-length c = c .before .loop .inv .2
 
 returns : tie.Need-returns Inv-loop μ-loop
-returns c = 
+returns c =
     (wrote-end _ _ _ (c .before .loop .inv .3) (omega arith) (omega arith), omega arith)
 
 pub cells-spec : {M : Type 1} → statement M

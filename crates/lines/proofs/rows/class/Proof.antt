@@ -1,7 +1,7 @@
 use native.Mathlib.Omega.{arith}
 use borrow.Author.Tests.{eq-eqb, ne-eqb}
-use Rattle.lines.specs.Lines.{classText}
 use borrow.Author.Needs.{needs}
+use Rattle.lines.specs.Lines.{classText}
 use Rattle.lines.proofs.rows.class.Statement.{statement}
 use Rattle.lines.proofs.rows.class.Tie as tie
 

@@ -1,6 +1,6 @@
 use mathlib.Core.Path.{sym}
-use lib.ListN.{List·getD-eq-default}
 use borrow.Author.Needs.{needs}
+use lib.ListN.{List·getD-eq-default}
 use Rattle.lines.proofs.rows.value.Statement.{statement}
 use Rattle.lines.proofs.rows.value.Tie as tie
 
