@@ -1,0 +1,17 @@
+use borrow.Author.Needs.{needs}
+use Rattle.lines.specs.Text.{digit as digitOf}
+use Rattle.lines.proofs.digits.digit.Statement.{statement}
+use Rattle.lines.proofs.digits.digit.Tie as tie
+
+cast-result : tie.Need-cast-result
+cast-result c = search needs
+
+add-result : tie.Need-add-result
+add-result c = search needs
+
+returns : tie.Need-returns
+unfolding digitOf
+returns c = search needs
+
+pub digit-spec : {M : Type 1} → statement M
+digit-spec = tie.close (tie.spec cast-result add-result returns)

@@ -1,0 +1,17 @@
+use mathlib.Core.Path.{sym}
+use borrow.Author.Needs.{needs}
+use lib.ListN.{List·getD-eq-default}
+use Rattle.lines.proofs.rows.owner.Statement.{statement}
+use Rattle.lines.proofs.rows.owner.Tie as tie
+
+returns : tie.Need-returns
+returns c = sym (List·getD-eq-default (c .before .args .owners .now) 0 (c .if1 .taken))
+
+shared-slice-read-result : tie.Need-shared-slice-read-result
+shared-slice-read-result c = search needs
+
+returns-2 : tie.Need-returns-2
+returns-2 c = search needs
+
+pub owner-spec : {M : Type 1} → statement M
+owner-spec = tie.close (tie.spec returns shared-slice-read-result returns-2)
