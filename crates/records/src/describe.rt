@@ -76,7 +76,8 @@ pub fn labels(bytes: &[u8], description: Description) -> Description
 {
     let mut next = description;
     next.levels = label_count(bytes) as u16;
-    next.labels = sixteen(bytes);
+    let labels = sixteen(bytes);
+    next.labels = labels;
     next
 }
 
@@ -112,16 +113,18 @@ fn with_relation(bytes: &[u8], description: Description, relation: usize) -> Des
     requires { ⌜ relation ≤ 8 ⌝ }
     ensures { λ r. ⌜ r ≡ withRelation description relation (now (bytes .entry)) ⌝ }
 {
-    let low = description.low;
-    let high = description.high;
+    let before = description.low;
+    let low = ends(bytes, 12, relation, before);
+    let above = description.high;
+    let high = ends(bytes, 14, relation, above);
     let mut next = description;
     next.relations = relation as u16;
     next.columns[relation] = pair(bytes, 4);
     next.rows[relation] = pair(bytes, 6);
     next.foreign[relation] = pair(bytes, 8);
     next.refers[relation] = pair(bytes, 10);
-    next.low = ends(bytes, 12, relation, low);
-    next.high = ends(bytes, 14, relation, high);
+    next.low = low;
+    next.high = high;
     next
 }
 
