@@ -3,8 +3,9 @@ use crate::bytes::count;
 use crate::bytes::pair;
 use model::Description;
 ghost use mathlib.Core.Path.{_≡_};
-ghost use Prim.Native.Nat.{_+_, _*_, _≤_};
+ghost use Prim.Native.Nat.{_+_, _*_, _≤_, min};
 ghost use Rattle.bounded.specs.Lists.{writeAt};
+ghost use Rattle.records.specs.Bytes.{pair as pairOf};
 ghost use Rattle.records.specs.Descriptions.{nothing as nothingOf, isLabels, labelCount, labelAt, labelsOf, labelled, isRelated, ends as endsOf, withRelation, related};
 
 // The description before any record.
@@ -90,15 +91,23 @@ pub fn is_relation(bytes: &[u8]) -> bool
     bytes.len() == 12 + 4 * count(bytes, 4)
 }
 
+// How many columns the description can hold.
+fn held(bytes: &[u8]) -> usize
+    ensures { λ r. ⌜ (r ≡ min (pairOf (now (bytes .entry)) 4) 8) × (r ≤ 8) ⌝ }
+{
+    let columns = count(bytes, 4);
+    if 8 < columns {
+        return 8;
+    }
+    columns
+}
+
 // The ends of the columns' ranges, from a place of the record on.
 fn ends(bytes: &[u8], at: usize, relation: usize, before: [u16; 81]) -> [u16; 81]
     requires { ⌜ (at ≤ 100) × (relation ≤ 8) ⌝ }
     ensures { λ r. ⌜ r ≡ writeAt (9 * relation + 1) (endsOf (now (bytes .entry)) at) before ⌝ }
 {
-    let mut columns = count(bytes, 4);
-    if 8 < columns {
-        columns = 8;
-    }
+    let columns = held(bytes);
     let mut next = before;
     let mut k = 0;
     while k < columns {

@@ -4,12 +4,14 @@ use crate::bytes::count;
 use crate::bytes::field;
 use crate::bytes::pair;
 use crate::bytes::quad;
+use crate::whole::between;
 use crate::whole::is_whole;
 use model::Statement;
 use model::What;
 ghost use mathlib.Core.Path.{_≡_};
 ghost use mathlib.Core.Bool.{true};
 ghost use Prim.Native.Nat.{_*_, _≤_};
+ghost use lib.ListN.{length};
 ghost use Rattle.bounded.specs.Lists.{writeAt};
 ghost use Rattle.records.specs.Bytes.{fieldsFrom, cellsFrom, testsFrom};
 ghost use Rattle.records.specs.Statements.{whatOf, listEnd, hasConditions, conditionCount, lengthAsked, isStatement};
@@ -102,11 +104,7 @@ fn is_statement(bytes: &[u8]) -> bool
     if !is_whole(bytes) {
         return false;
     }
-    let kind = pair(bytes, 2);
-    if kind < 16 {
-        return false;
-    }
-    if 20 < kind {
+    if !between(16, 20, pair(bytes, 2)) {
         return false;
     }
     bytes.len() == length_asked(bytes)
@@ -115,8 +113,8 @@ fn is_statement(bytes: &[u8]) -> bool
 // ---- its lists
 
 // Fields from a place on.
-fn fields(bytes: &[u8], list: &mut [u32; 512], at: usize, n: usize)
-    requires { ⌜ (at ≤ 2000) × (n ≤ 512) ⌝ }
+fn fields(bytes: &[u8], list: &mut [u32], at: usize, n: usize)
+    requires { ⌜ (at ≤ 2000) × ((n ≤ 512) × (length (now list) ≡ 512)) ⌝ }
     ensures { λ _. ⌜ now (list .exit) ≡ writeAt 0 (fieldsFrom (now (bytes .entry)) at n) (now (list .entry)) ⌝ }
 {
     let mut i = 0;
@@ -127,8 +125,8 @@ fn fields(bytes: &[u8], list: &mut [u32; 512], at: usize, n: usize)
 }
 
 // Columns and values from a place on.
-fn cells(bytes: &[u8], list: &mut [u32; 512], at: usize, n: usize)
-    requires { ⌜ (at ≤ 2000) × (2 * n ≤ 512) ⌝ }
+fn cells(bytes: &[u8], list: &mut [u32], at: usize, n: usize)
+    requires { ⌜ (at ≤ 2000) × ((2 * n ≤ 512) × (length (now list) ≡ 512)) ⌝ }
     ensures { λ _. ⌜ now (list .exit) ≡ writeAt 0 (cellsFrom (now (bytes .entry)) at n) (now (list .entry)) ⌝ }
 {
     let mut i = 0;
@@ -140,8 +138,8 @@ fn cells(bytes: &[u8], list: &mut [u32; 512], at: usize, n: usize)
 }
 
 // Conditions from a place on.
-fn tests(bytes: &[u8], list: &mut [u32; 512], at: usize, n: usize)
-    requires { ⌜ (at ≤ 2000) × (4 * n ≤ 512) ⌝ }
+fn tests(bytes: &[u8], list: &mut [u32], at: usize, n: usize)
+    requires { ⌜ (at ≤ 2000) × ((4 * n ≤ 512) × (length (now list) ≡ 512)) ⌝ }
     ensures { λ _. ⌜ now (list .exit) ≡ writeAt 0 (testsFrom (now (bytes .entry)) at n) (now (list .entry)) ⌝ }
 {
     let mut i = 0;
@@ -155,8 +153,8 @@ fn tests(bytes: &[u8], list: &mut [u32; 512], at: usize, n: usize)
 }
 
 // The statement's list; how many numbers it has.
-fn fill_list(bytes: &[u8], list: &mut [u32; 512]) -> usize
-    requires { ⌜ isStatement (now bytes) ≡ true ⌝ }
+fn fill_list(bytes: &[u8], list: &mut [u32]) -> usize
+    requires { ⌜ (isStatement (now bytes) ≡ true) × (length (now list) ≡ 512) ⌝ }
     ensures { λ r. ⌜ ListFilled (now (bytes .entry)) (now (list .entry)) (now (list .exit)) r ⌝ }
 {
     let kind = pair(bytes, 2);
@@ -182,8 +180,8 @@ fn fill_list(bytes: &[u8], list: &mut [u32; 512]) -> usize
 }
 
 // The statement's conditions; how many numbers they have.
-fn fill_conditions(bytes: &[u8], conditions: &mut [u32; 512]) -> usize
-    requires { ⌜ isStatement (now bytes) ≡ true ⌝ }
+fn fill_conditions(bytes: &[u8], conditions: &mut [u32]) -> usize
+    requires { ⌜ (isStatement (now bytes) ≡ true) × (length (now conditions) ≡ 512) ⌝ }
     ensures { λ r. ⌜ ConditionsFilled (now (bytes .entry)) (now (conditions .entry)) (now (conditions .exit)) r ⌝ }
 {
     let at = list_end(bytes);

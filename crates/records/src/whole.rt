@@ -2,6 +2,7 @@
 use crate::bytes::count;
 use crate::bytes::pair;
 ghost use mathlib.Core.Path.{_≡_};
+ghost use Rattle.model.specs.Description.{between as betweenOf};
 ghost use Rattle.records.specs.Record.{whole as wholeOf, follows as followsOf, kindAfter};
 
 // Whether a record is neither cut nor longer than its header says, with a body of at most 1,024 bytes.
@@ -18,6 +19,16 @@ pub fn is_whole(bytes: &[u8]) -> bool
     bytes.len() == 4 + body
 }
 
+// Whether a number is in a range.
+pub fn between(low: u16, high: u16, n: u16) -> bool
+    ensures { λ r. ⌜ r ≡ betweenOf low high n ⌝ }
+{
+    if n < low {
+        return false;
+    }
+    n <= high
+}
+
 // Whether a kind is known and may come after the last one, 0 where none has come.
 fn follows(last: u16, kind: u16) -> bool
     ensures { λ r. ⌜ r ≡ followsOf last kind ⌝ }
@@ -25,19 +36,16 @@ fn follows(last: u16, kind: u16) -> bool
     if kind == 1 {
         return last == 0;
     }
-    if last < 1 {
-        return false;
-    }
     if kind == 2 {
-        return last <= 2;
+        return between(1, 2, last);
     }
     if kind == 3 {
-        return last <= 3;
+        return between(1, 3, last);
     }
-    if kind < 16 {
+    if !between(16, 20, kind) {
         return false;
     }
-    kind <= 20
+    0 < last
 }
 
 // The kind of a record that is whole and in order, 0 of any other.

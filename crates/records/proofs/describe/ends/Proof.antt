@@ -1,89 +1,71 @@
+use borrow.Author.Needs.{needs}
+use Prim.Native.Nat.{_+_, _*_, _≤_, _-_}
+use mathlib.Core.Path.{_≡_, sym, _∙_}
+use native.Mathlib.Omega.{arith}
+use lib.ListN.{length}
+use Rattle.bounded.specs.Lists.{listBelow, writeAt}
+use Rattle.bounded.proofs.Lists.{numbers-start, numbers-more, numbers-end}
+use Rattle.records.specs.Bytes.{pair}
+use Rattle.records.specs.Descriptions.{ends}
 use Rattle.records.proofs.describe.ends.Statement.{statement}
 use Rattle.records.proofs.describe.ends.Tie as tie
-use Rattle.records.proofs.describe.ends.Reads as reads
-use Rattle.records.proofs.describe.ends.Lts as lts
-use Rattle.records.proofs.bytes.count.Reads as count-reads
-use Rattle.records.proofs.bytes.pair.Reads as pair-reads
 
 abbrev Inv-loop : tie.InvT-loop
-Inv-loop bytes at relation columns next₀ k₀ next k = ?
+Inv-loop bytes at relation columns next₀ k₀ next k =
+    (k ≤ columns)
+    × (length next₀ ≡ 81)
+    × (next ≡ writeAt (9 * relation + 1) (listBelow k (λ j. pair bytes (at + 4 * j))) next₀)
 
 abbrev μ-loop : tie.MeasureT-loop
-μ-loop bytes at relation columns next₀ k₀ next k = ?
+μ-loop bytes at relation columns next₀ k₀ next k = columns - k
 
--- src/describe.rt:97:9
-count-requires : tie.Need-count-requires Inv-loop μ-loop
-count-requires c κs = ?
+held-requires : tie.Need-held-requires Inv-loop μ-loop
+held-requires c κs = search needs
 
--- src/describe.rt:103:5
 loop-holds : tie.Need-loop-holds Inv-loop μ-loop
-loop-holds c = ?
+loop-holds c = (omega arith, omega arith, numbers-start _ _ _)
 
--- src/describe.rt:104:55
 mul-pair : tie.Need-mul-pair Inv-loop μ-loop
-mul-pair c = ?
+mul-pair c = omega arith
 
--- src/describe.rt:104:50
 add-pair : tie.Need-add-pair Inv-loop μ-loop
-add-pair c = ?
+add-pair c = omega arith
 
--- src/describe.rt:104:38
 pair-requires : tie.Need-pair-requires Inv-loop μ-loop
-pair-requires c κs = ?
+pair-requires c κs = search needs
 
--- src/describe.rt:104:14
 mul-next : tie.Need-mul-next Inv-loop μ-loop
-mul-next c = ?
+mul-next c = omega arith
 
--- src/describe.rt:104:14
 add-next : tie.Need-add-next Inv-loop μ-loop
-add-next c = ?
+add-next c = omega arith
 
--- src/describe.rt:104:14
 add-next-2 : tie.Need-add-next-2 Inv-loop μ-loop
-add-next-2 c = ?
+add-next-2 c = omega arith
 
--- src/describe.rt:104:9
 mul-next-2 : tie.Need-mul-next-2 Inv-loop μ-loop
-mul-next-2 c = ?
+mul-next-2 c = omega arith
 
--- src/describe.rt:104:9
 array-write-next : tie.Need-array-write-next Inv-loop μ-loop
-array-write-next c = ?
+array-write-next c = omega arith
 
--- src/describe.rt:105:9
 add-k : tie.Need-add-k Inv-loop μ-loop
-add-k c = ?
+add-k c = omega arith
 
--- src/describe.rt:103:5
 loop-less : tie.Need-loop-less Inv-loop μ-loop
-loop-less c = ?
+loop-less c = omega arith
 
--- src/describe.rt:103:5
 loop-again : tie.Need-loop-again Inv-loop μ-loop
-loop-again c = ?
+loop-again c =
+    let l = c .before .before .loop in
+    (omega arith, l .inv .1, numbers-more _ _ _ _ (l .inv .2) (omega arith) (c .pair .ensures))
 
--- src/describe.rt:93:1
 returns : tie.Need-returns Inv-loop μ-loop
-returns c = ?
+unfolding ends
+returns c =
+    let l = c .before .loop in
+    let h = c .before .before .held .ensures .0 in
+    rw (← h) (numbers-end _ _ _ _ _ (l .inv .2) (l .inv .0) (c .loop-test .left))
 
 pub ends-spec : {M : Type 1} → statement M
-ends-spec =
-    tie.close
-    (tie.spec
-    Inv-loop
-    μ-loop
-    count-requires
-    loop-holds
-    mul-pair
-    add-pair
-    pair-requires
-    mul-next
-    add-next
-    add-next-2
-    mul-next-2
-    array-write-next
-    add-k
-    loop-less
-    loop-again
-    returns)
+ends-spec = tie.close (tie.spec Inv-loop μ-loop held-requires loop-holds mul-pair add-pair pair-requires mul-next add-next add-next-2 mul-next-2 array-write-next add-k loop-less loop-again returns)

@@ -1,35 +1,28 @@
 use borrow.Author.Needs.{needs}
+use borrow.Author.Tests.{lt-ltb, le-ltb}
+use Rattle.records.specs.Descriptions.{labelAt}
 use Rattle.records.proofs.describe.label.Statement.{statement}
 use Rattle.records.proofs.describe.label.Tie as tie
-use Rattle.records.proofs.describe.label.Reads as reads
-use Rattle.records.proofs.describe.label.Lts as lts
-use Rattle.records.proofs.bytes.pair.Reads as pair-reads
-use Rattle.records.proofs.describe.label_count.Reads as label-count-reads
 
--- src/describe.rt:54:8
 label-count-requires : tie.Need-label-count-requires
 label-count-requires c κs = search needs
 
--- src/describe.rt:55:9
 returns : tie.Need-returns
-returns c = ?
+unfolding labelAt
+returns c = rw (← (c .before .label-count .ensures .0), le-ltb _ _ (c .if1 .taken))
 
--- src/describe.rt:57:21
 mul-pair : tie.Need-mul-pair
 mul-pair c = search needs
 
--- src/describe.rt:57:17
 add-pair : tie.Need-add-pair
 add-pair c = search needs
 
--- src/describe.rt:57:5
 pair-requires : tie.Need-pair-requires
 pair-requires c κs = search needs
 
--- src/describe.rt:51:1
 returns-2 : tie.Need-returns-2
-returns-2 c = ?
+unfolding labelAt
+returns-2 c = rw (← (c .before .before .label-count .ensures .0), lt-ltb _ _ (c .before .if1 .left), c .pair .ensures)
 
 pub label-spec : {M : Type 1} → statement M
-label-spec =
-    tie.close (tie.spec label-count-requires returns mul-pair add-pair pair-requires returns-2)
+label-spec = tie.close (tie.spec label-count-requires returns mul-pair add-pair pair-requires returns-2)

@@ -1,32 +1,30 @@
 use borrow.Author.Needs.{needs}
+use native.Mathlib.Omega.{arith}
+use borrow.Author.Tests.{not-true, not-false}
+use Rattle.records.specs.Statements.{conditionCount}
 use Rattle.records.proofs.statement.condition_count.Statement.{statement}
 use Rattle.records.proofs.statement.condition_count.Tie as tie
-use Rattle.records.proofs.statement.condition_count.Reads as reads
-use Rattle.records.proofs.statement.condition_count.Lts as lts
-use Rattle.records.proofs.bytes.count.Reads as count-reads
-use Rattle.records.proofs.statement.has_conditions.Reads as has-conditions-reads
-use Rattle.records.proofs.statement.list_end.Reads as list-end-reads
 
--- src/statement.rt:80:9
 has-conditions-requires : tie.Need-has-conditions-requires
 has-conditions-requires c κs = search needs
 
--- src/statement.rt:81:9
 returns : tie.Need-returns
-returns c = ?
+unfolding conditionCount
+returns c = (rw (← (c .before .has-conditions .ensures), not-true (c .before .has-conditions .result) (c .if1 .taken)), omega arith)
 
--- src/statement.rt:83:9
 list-end-requires : tie.Need-list-end-requires
 list-end-requires c κs = search needs
 
--- src/statement.rt:84:5
 count-requires : tie.Need-count-requires
 count-requires c κs = search needs
 
--- src/statement.rt:77:1
 returns-2 : tie.Need-returns-2
-returns-2 c = ?
+unfolding conditionCount
+returns-2 c =
+    let e = c .before .before in (
+      rw (← (e .before .has-conditions .ensures), not-false (e .before .has-conditions .result) (e .if1 .left), ← (c .before .list-end .ensures .0), c .count .ensures .0),
+      c .count .ensures .1,
+    )
 
 pub condition-count-spec : {M : Type 1} → statement M
-condition-count-spec =
-    tie.close (tie.spec has-conditions-requires returns list-end-requires count-requires returns-2)
+condition-count-spec = tie.close (tie.spec has-conditions-requires returns list-end-requires count-requires returns-2)

@@ -1,43 +1,37 @@
 use borrow.Author.Needs.{needs}
+use native.Mathlib.Omega.{arith}
+use Rattle.records.specs.Statements.{conditionsOf}
+use Rattle.records.proofs.Extents.{list-room, conditions-room}
+use Rattle.records.proofs.Written.{filled, tests-length}
 use Rattle.records.proofs.statement.fill_conditions.Statement.{statement}
 use Rattle.records.proofs.statement.fill_conditions.Tie as tie
-use Rattle.records.proofs.statement.fill_conditions.Reads as reads
-use Rattle.records.proofs.statement.fill_conditions.Lts as lts
-use Rattle.records.proofs.statement.condition_count.Reads as condition-count-reads
-use Rattle.records.proofs.statement.list_end.Reads as list-end-reads
-use Rattle.records.proofs.statement.tests.Reads as tests-reads
 
--- src/statement.rt:189:9
 list-end-requires : tie.Need-list-end-requires
 list-end-requires c κs = search needs
 
--- src/statement.rt:190:9
 condition-count-requires : tie.Need-condition-count-requires
 condition-count-requires c κs = search needs
 
--- src/statement.rt:191:30
 add-tests : tie.Need-add-tests
 add-tests c = search needs
 
--- src/statement.rt:191:5
 tests-requires : tie.Need-tests-requires
-tests-requires c κs = ?
+tests-requires c κs =
+    let e = c .before .before in
+    let s = e .before .before .before in
+    (omega (arith, list-room _ (s .pre .0), e .list-end .ensures .0), (omega (arith, conditions-room _ (s .pre .0), c .before .condition-count .ensures .0), s .pre .1))
 
--- src/statement.rt:192:5
 mul-result : tie.Need-mul-result
 mul-result c = search needs
 
--- src/statement.rt:185:1
+same-length : tie.Need-same-length
+same-length c = search needs
+
 returns : tie.Need-returns
-returns c = ?
+unfolding conditionsOf
+returns c =
+    let e = c .before .before .before .before in
+    filled (rw (e .before .list-end .ensures .0, e .condition-count .ensures .0)) (tests-length _ _ _) (c .before .before .tests .ensures)
 
 pub fill-conditions-spec : {M : Type 1} → statement M
-fill-conditions-spec =
-    tie.close
-    (tie.spec
-    list-end-requires
-    condition-count-requires
-    add-tests
-    tests-requires
-    mul-result
-    returns)
+fill-conditions-spec = tie.close (tie.spec list-end-requires condition-count-requires add-tests tests-requires mul-result same-length returns)

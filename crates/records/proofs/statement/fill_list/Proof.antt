@@ -1,89 +1,100 @@
 use borrow.Author.Needs.{needs}
+use mathlib.Core.Path.{refl, sym, _∙_}
+use native.Mathlib.Omega.{arith}
+use Rattle.bounded.proofs.Lists.{write-none}
+use Rattle.records.proofs.Extents.{Listed, insert-cells, update-cells, uplevel-fields, select-fields, none-listed, list-room}
+use Rattle.records.proofs.Written.{filled, cells-length, fields-length}
 use Rattle.records.proofs.statement.fill_list.Statement.{statement}
 use Rattle.records.proofs.statement.fill_list.Tie as tie
-use Rattle.records.proofs.statement.fill_list.Reads as reads
-use Rattle.records.proofs.statement.fill_list.Lts as lts
-use Rattle.records.proofs.bytes.count.Reads as count-reads
-use Rattle.records.proofs.bytes.pair.Reads as pair-reads
-use Rattle.records.proofs.statement.cells.Reads as cells-reads
-use Rattle.records.proofs.statement.fields.Reads as fields-reads
 
--- src/statement.rt:162:9
 pair-requires : tie.Need-pair-requires
 pair-requires c κs = search needs
 
--- src/statement.rt:163:9
 count-requires : tie.Need-count-requires
 count-requires c κs = search needs
 
--- src/statement.rt:165:9
 cells-requires : tie.Need-cells-requires
-cells-requires c κs = ?
+cells-requires c κs =
+    let e = c .before .before in
+    let s = e .before .before .before .before in
+    let k = insert-cells _ (sym (e .before .pair .ensures) ∙ c .before .if1 .taken) in
+    (omega arith, (omega (arith, list-room _ (s .pre .0), k .end-is, e .count .ensures .0), s .pre .1))
 
--- src/statement.rt:166:16
 mul-result : tie.Need-mul-result
 mul-result c = search needs
 
--- src/statement.rt:166:9
+same-length : tie.Need-same-length
+same-length c = search needs
+
 returns : tie.Need-returns
-returns c = ?
+returns c =
+    let e = c .before .before .before .before .before in
+    let k = insert-cells _ (sym (e .before .pair .ensures) ∙ c .before .before .before .before .if1 .taken) in
+    filled (rw (e .count .ensures .0) (k .list-is)) (cells-length _ _ _) (c .before .before .cells .ensures)
 
--- src/statement.rt:169:9
 cells-requires-2 : tie.Need-cells-requires-2
-cells-requires-2 c κs = ?
+cells-requires-2 c κs =
+    let e = c .before .before .before in
+    let s = e .before .before .before .before in
+    let k = update-cells _ (sym (e .before .pair .ensures) ∙ c .before .if2 .taken) in
+    (omega arith, (omega (arith, list-room _ (s .pre .0), k .end-is, e .count .ensures .0), s .pre .1))
 
--- src/statement.rt:170:16
 mul-result-2 : tie.Need-mul-result-2
 mul-result-2 c = search needs
 
--- src/statement.rt:170:9
-returns-2 : tie.Need-returns-2
-returns-2 c = ?
+same-length-2 : tie.Need-same-length-2
+same-length-2 c = search needs
 
--- src/statement.rt:173:25
+returns-2 : tie.Need-returns-2
+returns-2 c =
+    let e = c .before .before .before .before .before .before in
+    let k = update-cells _ (sym (e .before .pair .ensures) ∙ c .before .before .before .before .if2 .taken) in
+    filled (rw (e .count .ensures .0) (k .list-is)) (cells-length _ _ _) (c .before .before .cells2 .ensures)
+
 count-requires-2 : tie.Need-count-requires-2
 count-requires-2 c κs = search needs
 
--- src/statement.rt:173:21
 mul-twice : tie.Need-mul-twice
 mul-twice c = search needs
 
--- src/statement.rt:174:9
 fields-requires : tie.Need-fields-requires
-fields-requires c κs = ?
+fields-requires c κs =
+    let e = c .before .before .before .before .before .before in
+    let s = e .before .before .before in
+    let k = uplevel-fields _ (sym (e .pair .ensures) ∙ c .before .before .if3 .taken) in
+    (omega arith, (omega (arith, list-room _ (s .pre .0), k .end-is, c .before .count2 .ensures .0), s .pre .1))
 
--- src/statement.rt:175:9
+same-length-3 : tie.Need-same-length-3
+same-length-3 c = search needs
+
 returns-3 : tie.Need-returns-3
-returns-3 c = ?
+returns-3 c =
+    let e = c .before .before .before .before in
+    let k = uplevel-fields _ (sym (e .before .before .before .before .before .pair .ensures) ∙ e .before .if3 .taken) in
+    filled (rw (e .count2 .ensures .0) (k .list-is)) (fields-length _ _ _) (c .before .before .fields .ensures)
 
--- src/statement.rt:178:9
 fields-requires-2 : tie.Need-fields-requires-2
-fields-requires-2 c κs = ?
+fields-requires-2 c κs =
+    let e = c .before .before .before .before .before in
+    let s = e .before .before .before .before in
+    let k = select-fields _ (sym (e .before .pair .ensures) ∙ c .before .if4 .taken) in
+    (omega arith, (omega (arith, list-room _ (s .pre .0), k .end-is, e .count .ensures .0), s .pre .1))
 
--- src/statement.rt:179:9
+same-length-4 : tie.Need-same-length-4
+same-length-4 c = search needs
+
 returns-4 : tie.Need-returns-4
-returns-4 c = ?
+returns-4 c =
+    let e = c .before .before .before .before in
+    let n = e .before .before .before .before in
+    let k = select-fields _ (sym (n .before .pair .ensures) ∙ e .if4 .taken) in
+    filled (rw (n .count .ensures .0) (k .list-is)) (fields-length _ _ _) (c .before .before .fields2 .ensures)
 
--- src/statement.rt:158:1
 returns-5 : tie.Need-returns-5
-returns-5 c = ?
+returns-5 c =
+    let e = c .before .before in
+    let p = e .before .before .before .pair .ensures in
+    filled (none-listed _ (rw (← p) (e .before .if1 .left)) (rw (← p) (e .if2 .left)) (rw (← p) (c .before .if3 .left)) (rw (← p) (c .if4 .left)) .list-is) refl (write-none 0 _)
 
 pub fill-list-spec : {M : Type 1} → statement M
-fill-list-spec =
-    tie.close
-    (tie.spec
-    pair-requires
-    count-requires
-    cells-requires
-    mul-result
-    returns
-    cells-requires-2
-    mul-result-2
-    returns-2
-    count-requires-2
-    mul-twice
-    fields-requires
-    returns-3
-    fields-requires-2
-    returns-4
-    returns-5)
+fill-list-spec = tie.close (tie.spec pair-requires count-requires cells-requires mul-result same-length returns cells-requires-2 mul-result-2 same-length-2 returns-2 count-requires-2 mul-twice fields-requires same-length-3 returns-3 fields-requires-2 same-length-4 returns-4 returns-5)

@@ -1,48 +1,36 @@
 use borrow.Author.Needs.{needs}
+use borrow.Author.Tests.{not-true, not-false}
+use Rattle.records.specs.Statements.{isStatement}
 use Rattle.records.proofs.statement.is_statement.Statement.{statement}
 use Rattle.records.proofs.statement.is_statement.Tie as tie
-use Rattle.records.proofs.statement.is_statement.Reads as reads
-use Rattle.records.proofs.statement.is_statement.Lts as lts
-use Rattle.records.proofs.bytes.pair.Reads as pair-reads
-use Rattle.records.proofs.statement.length_asked.Reads as length-asked-reads
-use Rattle.records.proofs.whole.is_whole.Reads as is-whole-reads
 
--- src/statement.rt:102:9
 is-whole-requires : tie.Need-is-whole-requires
 is-whole-requires c κs = search needs
 
--- src/statement.rt:103:9
 returns : tie.Need-returns
-returns c = ?
+unfolding isStatement
+returns c = rw (← (c .before .is-whole .ensures), not-true (c .before .is-whole .result) (c .if1 .taken))
 
--- src/statement.rt:105:9
 pair-requires : tie.Need-pair-requires
 pair-requires c κs = search needs
 
--- src/statement.rt:107:9
+between-requires : tie.Need-between-requires
+between-requires c κs = search needs
+
 returns-2 : tie.Need-returns-2
-returns-2 c = ?
+unfolding isStatement
+returns-2 c =
+    let e = c .before .before .before in
+    rw (← (e .before .is-whole .ensures), not-false (e .before .is-whole .result) (e .if1 .left), ← (c .before .before .pair .ensures), ← (c .before .between .ensures), not-true (c .before .between .result) (c .if2 .taken))
 
--- src/statement.rt:110:9
-returns-3 : tie.Need-returns-3
-returns-3 c = ?
-
--- src/statement.rt:112:20
 length-asked-requires : tie.Need-length-asked-requires
 length-asked-requires c κs = search needs
 
--- src/statement.rt:99:1
-returns-4 : tie.Need-returns-4
-returns-4 c = ?
+returns-3 : tie.Need-returns-3
+unfolding isStatement
+returns-3 c =
+    let e = c .before .before .before .before in
+    rw (← (e .before .is-whole .ensures), not-false (e .before .is-whole .result) (e .if1 .left), ← (c .before .before .before .pair .ensures), ← (c .before .before .between .ensures), not-false (c .before .before .between .result) (c .before .if2 .left), c .length-asked .ensures)
 
 pub is-statement-spec : {M : Type 1} → statement M
-is-statement-spec =
-    tie.close
-    (tie.spec
-    is-whole-requires
-    returns
-    pair-requires
-    returns-2
-    returns-3
-    length-asked-requires
-    returns-4)
+is-statement-spec = tie.close (tie.spec is-whole-requires returns pair-requires between-requires returns-2 length-asked-requires returns-3)

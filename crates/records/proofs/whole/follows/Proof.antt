@@ -1,31 +1,41 @@
+use borrow.Author.Needs.{needs}
+use borrow.Author.Tests.{eq-eqb, ne-eqb, not-true, not-false}
+use Rattle.records.specs.Record.{follows}
 use Rattle.records.proofs.whole.follows.Statement.{statement}
 use Rattle.records.proofs.whole.follows.Tie as tie
-use Rattle.records.proofs.whole.follows.Reads as reads
-use Rattle.records.proofs.whole.follows.Lts as lts
 
--- src/whole.rt:26:9
 returns : tie.Need-returns
-returns c = ?
+unfolding follows
+returns c = rw (eq-eqb _ _ (c .if1 .taken))
 
--- src/whole.rt:29:9
+between-requires : tie.Need-between-requires
+between-requires c κs = search needs
+
 returns-2 : tie.Need-returns-2
-returns-2 c = ?
+unfolding follows
+returns-2 c = rw (ne-eqb _ _ (c .before .before .if1 .left), eq-eqb _ _ (c .before .if2 .taken), c .between .ensures)
 
--- src/whole.rt:32:9
+between-requires-2 : tie.Need-between-requires-2
+between-requires-2 c κs = search needs
+
 returns-3 : tie.Need-returns-3
-returns-3 c = ?
+unfolding follows
+returns-3 c = rw (ne-eqb _ _ (c .before .before .before .if1 .left), ne-eqb _ _ (c .before .before .if2 .left), eq-eqb _ _ (c .before .if3 .taken), c .between2 .ensures)
 
--- src/whole.rt:35:9
+between-requires-3 : tie.Need-between-requires-3
+between-requires-3 c κs = search needs
+
 returns-4 : tie.Need-returns-4
-returns-4 c = ?
+unfolding follows
+returns-4 c =
+    let e = c .before .before in
+    rw (ne-eqb _ _ (e .before .before .if1 .left), ne-eqb _ _ (e .before .if2 .left), ne-eqb _ _ (e .if3 .left), ← (c .before .between3 .ensures), not-true (c .before .between3 .result) (c .if4 .taken))
 
--- src/whole.rt:38:9
 returns-5 : tie.Need-returns-5
-returns-5 c = ?
-
--- src/whole.rt:22:1
-returns-6 : tie.Need-returns-6
-returns-6 c = ?
+unfolding follows
+returns-5 c =
+    let e = c .before .before in
+    rw (ne-eqb _ _ (e .before .before .if1 .left), ne-eqb _ _ (e .before .if2 .left), ne-eqb _ _ (e .if3 .left), ← (c .before .between3 .ensures), not-false (c .before .between3 .result) (c .if4 .left))
 
 pub follows-spec : {M : Type 1} → statement M
-follows-spec = tie.close (tie.spec returns returns-2 returns-3 returns-4 returns-5 returns-6)
+follows-spec = tie.close (tie.spec returns between-requires returns-2 between-requires-2 returns-3 between-requires-3 returns-4 returns-5)

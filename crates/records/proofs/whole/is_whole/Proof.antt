@@ -1,29 +1,26 @@
 use borrow.Author.Needs.{needs}
+use borrow.Author.Tests.{le-leb, lt-leb}
+use Rattle.records.specs.Record.{whole, sizeOf}
 use Rattle.records.proofs.whole.is_whole.Statement.{statement}
 use Rattle.records.proofs.whole.is_whole.Tie as tie
-use Rattle.records.proofs.whole.is_whole.Reads as reads
-use Rattle.records.proofs.whole.is_whole.Lts as lts
-use Rattle.records.proofs.bytes.count.Reads as count-reads
 
--- src/whole.rt:12:9
 returns : tie.Need-returns
-returns c = ?
+unfolding whole
+returns c = rw (lt-leb _ _ (c .if1 .taken))
 
--- src/whole.rt:14:9
 count-requires : tie.Need-count-requires
 count-requires c κs = search needs
 
--- src/whole.rt:16:9
 returns-2 : tie.Need-returns-2
-returns-2 c = ?
+unfolding whole
+returns-2 c = rw (le-leb _ _ (c .before .before .if1 .left), ← (c .before .count .ensures .0), lt-leb _ _ (c .if2 .taken))
 
--- src/whole.rt:18:20
 add-result : tie.Need-add-result
 add-result c = search needs
 
--- src/whole.rt:8:1
 returns-3 : tie.Need-returns-3
-returns-3 c = ?
+unfolding whole sizeOf
+returns-3 c = rw (le-leb _ _ (c .before .before .if1 .left), ← (c .before .count .ensures .0), le-leb _ _ (c .if2 .left))
 
 pub is-whole-spec : {M : Type 1} → statement M
 is-whole-spec = tie.close (tie.spec returns count-requires returns-2 add-result returns-3)
