@@ -18,11 +18,15 @@ unfoldable pub fieldsFrom : List ℕ → ℕ → ℕ → List ℕ
 fieldsFrom bytes at n = listBelow n (λ i. pair bytes (at + 2 * i))
 
 -- "n of (column, value)"
+abbrev pub cellAt : List ℕ → ℕ → List ℕ
+cellAt bytes at = pair bytes at ∷ quad bytes (at + 2) ∷ []
+
 unfoldable pub cellsFrom : List ℕ → ℕ → ℕ → List ℕ
-cellsFrom bytes at n = concatBelow n (λ i. pair bytes (at + 6 * i) ∷ quad bytes (at + 6 * i + 2) ∷ [])
+cellsFrom bytes at n = concatBelow n (λ i. cellAt bytes (at + 6 * i))
 
 -- "n of (column, 0 value or 1 class, test, constant)"
+abbrev pub testAt : List ℕ → ℕ → List ℕ
+testAt bytes at = pair bytes at ∷ pair bytes (at + 2) ∷ pair bytes (at + 4) ∷ quad bytes (at + 6) ∷ []
+
 unfoldable pub testsFrom : List ℕ → ℕ → ℕ → List ℕ
-testsFrom bytes at n =
-    concatBelow n (λ i.
-    pair bytes (at + 10 * i) ∷ pair bytes (at + 10 * i + 2) ∷ pair bytes (at + 10 * i + 4) ∷ quad bytes (at + 10 * i + 6) ∷ [])
+testsFrom bytes at n = concatBelow n (λ i. testAt bytes (at + 10 * i))

@@ -1,6 +1,6 @@
 -- The records that describe the tables: kind 1, the labels, and kind 2, a relation (01, "mlrun").
 -- Assumes nothing: these are definitions.
-use Prim.Native.Nat.{ℕ, suc, _+_, _*_, _-_, min}
+use Prim.Native.Nat.{ℕ, suc, _+_, _*_, _-_, _/_, _%_, min}
 use mathlib.Core.Bool.{Bool}
 use mathlib.Core.List.{List}
 use lib.Dec.{eqb, ltb, leb}
@@ -31,15 +31,23 @@ nothing =
 unfoldable pub isLabels : List ℕ → Bool
 isLabels bytes = eqb (length bytes % 2) 0
 
+-- how many: a body of 1,024 bytes holds 512
 unfoldable pub labelCount : List ℕ → ℕ
-labelCount bytes = (length bytes - 4) / 2
+labelCount bytes = min ((length bytes - 4) / 2) 512
+
+-- the label of a level, 0 where there is none
+unfoldable pub labelAt : List ℕ → ℕ → ℕ
+labelAt bytes level = if ltb level (labelCount bytes) then pair bytes (4 + 2 * level) else 0
+
+unfoldable pub labelsOf : List ℕ → List ℕ
+labelsOf bytes = listBelow 16 (λ level. labelAt bytes level)
 
 -- the description with these labels; it holds 16, and counts all
 unfoldable pub labelled : Description → List ℕ → Description
 labelled d bytes =
     record {
       levels = labelCount bytes;
-      labels = listBelow 16 (λ i. if ltb i (labelCount bytes) then pair bytes (4 + 2 * i) else 0);
+      labels = labelsOf bytes;
       relations = d .relations;
       columns = d .columns;
       rows = d .rows;

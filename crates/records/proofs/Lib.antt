@@ -1,0 +1,4 @@
+pub mod Behind
+pub mod Written
+pub mod Extents
+pub mod Outcomes
