@@ -27,11 +27,14 @@ level bytes = pair bytes 6
 unfoldable pub rowOf : List ℕ → Row
 rowOf bytes k = cell (quad bytes (8 + 6 * pred k)) (pair bytes (12 + 6 * pred k))
 
--- it has as many cells as the relation has columns, and no "class over 255"
+-- no "class over 255" among the first n cells
+unfoldable pub smallClasses : ℕ → List ℕ → Bool
+smallClasses n bytes = allBelow n (λ k. leb (pair bytes (12 + 6 * k)) 255)
+
+-- it has as many cells as the relation has columns, and no such class
 unfoldable pub wellShaped : Description → List ℕ → Bool
 wellShaped d bytes =
-    eqb (length bytes) (8 + 6 * columnCount d (relation bytes))
-    && allBelow (columnCount d (relation bytes)) (λ k. leb (pair bytes (12 + 6 * k)) 255)
+    eqb (length bytes) (8 + 6 * columnCount d (relation bytes)) && smallClasses (columnCount d (relation bytes)) bytes
 
 -- "On a description that breaks a rule no row can be placed", nor where there is "no such place", with a "wrong cell count" or a "class
 -- over 255"
