@@ -15,7 +15,7 @@ ghost use Rattle.change.specs.Facts.{Filled};
 ghost use Rattle.placing.specs.Placing.{Places, rowOf, smallClasses};
 
 // How many cells there are: those before the last relation, and its own.
-fn total(description: Description) -> usize
+pub fn total(description: Description) -> usize
     requires { ⌜ sound description ≡ true ⌝ }
     ensures { λ r. ⌜ r ≡ totalOf description ⌝ }
 {

@@ -7,10 +7,12 @@ use records::describe;
 use records::statement::statement;
 ghost use mathlib.Core.Path.{_≡_};
 ghost use mathlib.Core.List.{List};
-ghost use Prim.Native.Nat.{ℕ, _≤_};
+ghost use Prim.Native.Nat.{ℕ, _≤_, min};
 ghost use lib.ListN.{length, replicate};
 ghost use Rattle.model.specs.Description.{columnCount};
-ghost use Rattle.stream.specs.Step.{cellsOf, refuses, labelsTurn, relationTurn, rowTurn, statementTurn, step as stepOf};
+ghost use Rattle.model.specs.Run.{run};
+ghost use Rattle.register.specs.Calls.{request};
+ghost use Rattle.stream.specs.Step.{cellsOf, tables, refuses, answered, labelsTurn, relationTurn, rowTurn, statementTurn, step as stepOf};
 ghost use Rattle.stream.specs.Facts.{holds, Took};
 
 // What is known after a record, beside the buffers.
@@ -73,10 +75,7 @@ fn extent(description: Description) -> usize
     if !judge::sound(description) {
         return 0;
     }
-    let last = description.relations as usize;
-    let part = cells::layout::lay(description, last);
-    let levels = description.levels as usize;
-    part.start + levels * part.rows * part.columns
+    placing::total(description)
 }
 
 // A record of kind 3.
@@ -106,7 +105,7 @@ fn row(
 
 // The lesser of two.
 fn least(a: usize, b: usize) -> usize
-    ensures { λ r. ⌜ (r ≤ a) × (r ≤ b) ⌝ }
+    ensures { λ r. ⌜ r ≡ min a b ⌝ }
 {
     if a < b { a } else { b }
 }
@@ -141,6 +140,7 @@ fn answer(
     statement: Statement,
     kind: u16,
 ) -> Stepped
+    ensures { λ r. ⌜ Took (answered (holds 0 description (now (values .entry)) (now (classes .entry))) kind statement (run description (tables (holds 0 description (now (values .entry)) (now (classes .entry)))) (request statement (now (list .entry)) (now (conditions .entry)) (now (shown .entry)) (now (owners .entry))))) (now (text .entry)) (now (values .exit)) (now (classes .exit)) (now (text .exit)) r ⌝ }
 {
     let extent = extent(description);
     let a = least(extent, values.len());
@@ -177,6 +177,8 @@ fn carry(
     kind: u16,
     number: u64,
 ) -> Stepped
+    requires { ⌜ (now shown ≡ replicate 8192 0) × (now owners ≡ replicate 9216 0) ⌝ }
+    ensures { λ r. ⌜ Took (statementTurn (holds last description (now (values .entry)) (now (classes .entry))) kind number (now (bytes .entry))) (now (text .entry)) (now (values .exit)) (now (classes .exit)) (now (text .exit)) r ⌝ }
 {
     let Read::Statement { statement, listed, tested } = statement(bytes, list, conditions, number) else {
         return refuse(text, description, last, number);
