@@ -1,10 +1,11 @@
--- The laws of text in a lent buffer: one byte, a text behind a text, and texts one after the other.
+-- The laws of text in a lent buffer: one byte, a text behind a text, a number, a class, and texts one after the other.
 -- Assumes nothing.
 use mathlib.Core.Path.{_≡_, refl, sym, _∙_}
 use mathlib.Core.List.{List, [], _∷_, _++_}
 use Prim.Native.Nat.{ℕ, suc, _+_, _/_, _%_, _≤_, _<_, _^_}
 use native.Mathlib.Nat.{add-zero}
 use native.Mathlib.Omega.{arith}
+use borrow.Author.Tests.{eq-eqb, ne-eqb}
 use lib.ListN.{length, set, length-append}
 use lib.Seq.{set-out}
 use Rattle.bounded.specs.Lists.{concatBelow}
@@ -12,6 +13,7 @@ use Rattle.bounded.proofs.Lists.{concat-more}
 use Rattle.bounded.proofs.Cases.{at-end}
 use Rattle.lines.proofs.Decimals.{decimal-one, decimal-more, decimal-short}
 use Rattle.lines.specs.Text.{digit, decimal}
+use Rattle.lines.specs.Lines.{dash, classText}
 use Rattle.lines.specs.Written.{written, Wrote}
 
 -- ---- one byte
@@ -46,6 +48,16 @@ pub wrote-digit : (n : ℕ) {at m x r : ℕ} {b c d : List ℕ} → 10 ≤ n →
 wrote-digit n {at} {m} {x} {r} {b} {c} {d} h k p e q =
     let w : Wrote at (decimal n) b d r = rw (decimal-more n h, ← e) (wrote-on p q) in
     (w, omega (arith, w .next-is, decimal-short n k))
+
+-- ---- a class
+
+pub wrote-null : (class : ℕ) {at r : ℕ} {b c : List ℕ} → class ≡ 255 → Wrote at (dash ∷ []) b c r → Wrote at (classText class) b c r
+unfolding classText
+wrote-null class e p = rw (eq-eqb class 255 e) p
+
+pub wrote-level : (class : ℕ) {at r : ℕ} {b c : List ℕ} → (class ≡ 255 → ⊥) → Wrote at (decimal class) b c r → Wrote at (classText class) b c r
+unfolding classText
+wrote-level class n p = rw (ne-eqb class 255 n) p
 
 -- ---- texts one after the other
 

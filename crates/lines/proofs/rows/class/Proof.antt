@@ -1,7 +1,6 @@
 use native.Mathlib.Omega.{arith}
-use borrow.Author.Tests.{eq-eqb, ne-eqb}
 use borrow.Author.Needs.{needs}
-use Rattle.lines.specs.Lines.{classText}
+use Rattle.lines.proofs.Writing.{wrote-null, wrote-level}
 use Rattle.lines.proofs.rows.class.Statement.{statement}
 use Rattle.lines.proofs.rows.class.Tie as tie
 
@@ -12,8 +11,7 @@ same-length : tie.Need-same-length
 same-length c = search needs
 
 returns : tie.Need-returns
-unfolding classText
-returns c = (simp (eq-eqb _ _ (c .before .before .before .before .if1 .taken)) (c .before .before .put .ensures), omega (arith, c .before .before .put .ensures .next-is))
+returns c = (wrote-null _ (c .before .before .before .before .if1 .taken) (c .before .before .put .ensures), omega (arith, c .before .before .put .ensures .next-is))
 
 decimal-requires : tie.Need-decimal-requires
 decimal-requires c κs = search needs
@@ -22,8 +20,7 @@ same-length-2 : tie.Need-same-length-2
 same-length-2 c = search needs
 
 returns-2 : tie.Need-returns-2
-unfolding classText
-returns-2 c = (simp (ne-eqb _ _ (c .before .before .before .before .if1 .left)) (c .before .before .decimal .ensures .0), omega arith)
+returns-2 c = (wrote-level _ (c .before .before .before .before .if1 .left) (c .before .before .decimal .ensures .0), omega arith)
 
 pub class-spec : {M : Type 1} → statement M
 class-spec =

@@ -40,7 +40,7 @@ same-length c = search needs
 returns : tie.Need-returns
 unfolding rowLine
 returns c =
-    (rw (← (c .before .before .before .before .before .before .before .before .before .before .before .before .owner .ensures)) (wrote-on (c .before .before .before .before .before .before .before .before .before .before .head .ensures .0) (wrote-on (c .before .before .before .before .before .before .cells .ensures .0) (c .before .before .put .ensures))), omega (arith, c .before .before .put .ensures .next-is))
+    (wrote-on (rw (c .before .before .before .before .before .before .before .before .before .before .before .before .owner .ensures) at (c .before .before .before .before .before .before .before .before .before .before .head .ensures .0)) (wrote-on (c .before .before .before .before .before .before .cells .ensures .0) (c .before .before .put .ensures)), omega (arith, c .before .before .put .ensures .next-is))
 
 pub row-spec : {M : Type 1} → statement M
 row-spec =
