@@ -14,8 +14,8 @@ ghost use Prim.Native.Nat.{_*_, _≤_};
 ghost use lib.ListN.{length};
 ghost use Rattle.bounded.specs.Lists.{writeAt};
 ghost use Rattle.records.specs.Bytes.{fieldsFrom, cellsFrom, testsFrom};
-ghost use Rattle.records.specs.Statements.{whatOf, hasCells, listEnd, hasConditions, conditionCount, lengthAsked, isStatement};
-ghost use Rattle.records.specs.Facts.{ListFilled, ConditionsFilled, Reading};
+ghost use Rattle.records.specs.Statements.{whatOf, hasCells, listOf, listEnd, hasConditions, conditionCount, conditionsOf, lengthAsked, isStatement};
+ghost use Rattle.records.specs.Facts.{Filled, Reading};
 
 // ---- what its kind and its counts say
 
@@ -163,7 +163,7 @@ fn tests(bytes: &[u8], list: &mut [u32], at: usize, n: usize)
 // The statement's list; how many numbers it has.
 fn fill_list(bytes: &[u8], list: &mut [u32]) -> usize
     requires { ⌜ (isStatement (now bytes) ≡ true) × (length (now list) ≡ 512) ⌝ }
-    ensures { λ r. ⌜ ListFilled (now (bytes .entry)) (now (list .entry)) (now (list .exit)) r ⌝ }
+    ensures { λ r. ⌜ Filled (listOf (now (bytes .entry))) (now (list .entry)) (now (list .exit)) r ⌝ }
 {
     let n = count(bytes, 8);
     if has_cells(bytes) {
@@ -186,7 +186,7 @@ fn fill_list(bytes: &[u8], list: &mut [u32]) -> usize
 // The statement's conditions; how many numbers they have.
 fn fill_conditions(bytes: &[u8], conditions: &mut [u32]) -> usize
     requires { ⌜ (isStatement (now bytes) ≡ true) × (length (now conditions) ≡ 512) ⌝ }
-    ensures { λ r. ⌜ ConditionsFilled (now (bytes .entry)) (now (conditions .entry)) (now (conditions .exit)) r ⌝ }
+    ensures { λ r. ⌜ Filled (conditionsOf (now (bytes .entry))) (now (conditions .entry)) (now (conditions .exit)) r ⌝ }
 {
     let at = list_end(bytes);
     let n = condition_count(bytes);

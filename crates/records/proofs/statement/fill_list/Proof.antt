@@ -2,7 +2,7 @@ use borrow.Author.Needs.{needs}
 use mathlib.Core.Path.{refl, sym, _∙_}
 use native.Mathlib.Omega.{arith}
 use Rattle.bounded.proofs.Lists.{write-none}
-use Rattle.records.proofs.Extents.{Listed, cells-listed, uplevel-fields, select-fields, none-listed, list-room}
+use Rattle.records.proofs.Extents.{cells-listed, uplevel-fields, select-fields, none-listed, list-room}
 use Rattle.records.proofs.Written.{filled, cells-length, fields-length}
 use Rattle.records.proofs.statement.fill_list.Statement.{statement}
 use Rattle.records.proofs.statement.fill_list.Tie as tie
@@ -82,4 +82,22 @@ returns-4 c =
     filled (none-listed _ (sym (e .before .before .has-cells .ensures) ∙ e .before .if1 .left) (rw (← p) (c .before .if2 .left)) (rw (← p) (c .if3 .left)) .list-is) refl (write-none 0 _)
 
 pub fill-list-spec : {M : Type 1} → statement M
-fill-list-spec = tie.close (tie.spec count-requires has-cells-requires cells-requires mul-result same-length returns pair-requires count-requires-2 mul-twice fields-requires same-length-2 returns-2 fields-requires-2 same-length-3 returns-3 returns-4)
+fill-list-spec =
+    tie.close
+    (tie.spec
+    count-requires
+    has-cells-requires
+    cells-requires
+    mul-result
+    same-length
+    returns
+    pair-requires
+    count-requires-2
+    mul-twice
+    fields-requires
+    same-length-2
+    returns-2
+    fields-requires-2
+    same-length-3
+    returns-3
+    returns-4)

@@ -68,4 +68,21 @@ returns-4 c =
     )
 
 pub list-end-spec : {M : Type 1} → statement M
-list-end-spec = tie.close (tie.spec has-cells-requires count-requires mul-result add-result returns pair-requires count-requires-2 mul-result-2 add-result-2 returns-2 count-requires-3 mul-result-3 add-result-3 returns-3 returns-4)
+list-end-spec =
+    tie.close
+    (tie.spec
+    has-cells-requires
+    count-requires
+    mul-result
+    add-result
+    returns
+    pair-requires
+    count-requires-2
+    mul-result-2
+    add-result-2
+    returns-2
+    count-requires-3
+    mul-result-3
+    add-result-3
+    returns-3
+    returns-4)
