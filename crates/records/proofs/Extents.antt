@@ -2,7 +2,7 @@
 -- conditions.
 -- Assumes nothing.
 use Prim.Native.Nat.{ℕ, _+_, _*_, _≤_}
-use mathlib.Core.Path.{_≡_, refl, ap}
+use mathlib.Core.Path.{_≡_, ap}
 use mathlib.Core.Bool.{true, false}
 use mathlib.Core.List.{List, []}
 use native.Mathlib.Omega.{arith}
@@ -13,7 +13,7 @@ use Rattle.bounded.proofs.Cases.{cases, and-left, and-right}
 use Rattle.model.specs.Description.{between}
 use Rattle.records.specs.Bytes.{pair, cellsFrom, fieldsFrom}
 use Rattle.records.specs.Record.{whole, sizeOf}
-use Rattle.records.specs.Statements.{listOf, listEnd, hasConditions, conditionCount, conditionsOf, lengthAsked, isStatement}
+use Rattle.records.specs.Statements.{hasCells, listOf, listEnd, hasConditions, conditionCount, conditionsOf, lengthAsked, isStatement}
 use Rattle.records.proofs.Written.{cells-length, fields-length, tests-length}
 
 module _ (bytes : List ℕ) where
@@ -23,29 +23,21 @@ module _ (bytes : List ℕ) where
     pub end-is : listEnd bytes ≡ end
     pub list-is : listOf bytes ≡ numbers
 
-  pub insert-cells : pair bytes 2 ≡ 16 → Listed (10 + 6 * pair bytes 8) (cellsFrom bytes 10 (pair bytes 8))
+  pub cells-listed : hasCells bytes ≡ true → Listed (10 + 6 * pair bytes 8) (cellsFrom bytes 10 (pair bytes 8))
   unfolding listEnd listOf
-  insert-cells p = record { end-is = rw p; list-is = rw p }
-
-  pub update-cells : pair bytes 2 ≡ 18 → Listed (10 + 6 * pair bytes 8) (cellsFrom bytes 10 (pair bytes 8))
-  unfolding listEnd listOf
-  update-cells p = record { end-is = rw p; list-is = rw p }
+  cells-listed h = record { end-is = rw h; list-is = rw h }
 
   pub uplevel-fields : pair bytes 2 ≡ 19 → Listed (16 + 4 * pair bytes 14) (fieldsFrom bytes 16 (2 * pair bytes 14))
-  unfolding listEnd listOf
+  unfolding listEnd listOf hasCells
   uplevel-fields p = record { end-is = rw p; list-is = rw p }
 
   pub select-fields : pair bytes 2 ≡ 20 → Listed (10 + 2 * pair bytes 8) (fieldsFrom bytes 10 (pair bytes 8))
-  unfolding listEnd listOf
+  unfolding listEnd listOf hasCells
   select-fields p = record { end-is = rw p; list-is = rw p }
 
-  pub none-listed : (pair bytes 2 ≡ 16 → ⊥) → (pair bytes 2 ≡ 18 → ⊥) → (pair bytes 2 ≡ 19 → ⊥) → (pair bytes 2 ≡ 20 → ⊥) → Listed 8 []
+  pub none-listed : hasCells bytes ≡ false → (pair bytes 2 ≡ 19 → ⊥) → (pair bytes 2 ≡ 20 → ⊥) → Listed 8 []
   unfolding listEnd listOf
-  none-listed a b c d =
-      record {
-        end-is = rw (ne-eqb _ _ a, ne-eqb _ _ b, ne-eqb _ _ c, ne-eqb _ _ d);
-        list-is = rw (ne-eqb _ _ a, ne-eqb _ _ b, ne-eqb _ _ c, ne-eqb _ _ d);
-      }
+  none-listed h a b = record { end-is = rw (h, ne-eqb _ _ a, ne-eqb _ _ b); list-is = rw (h, ne-eqb _ _ a, ne-eqb _ _ b) }
 
   -- ---- how long a whole record is
 
@@ -93,15 +85,13 @@ module _ (bytes : List ℕ) where
 
   listed-room : listEnd bytes ≤ 1028 → length (listOf bytes) ≤ 512
   listed-room h =
-      cases (eqb (pair bytes 2) 16)
-      (λ a. let k = insert-cells (eqb-true _ _ a) in omega (arith, k .end-is, ap length (k .list-is), cells-length bytes 10 (pair bytes 8)))
-      (λ a. cases (eqb (pair bytes 2) 18)
-      (λ b. let k = update-cells (eqb-true _ _ b) in omega (arith, k .end-is, ap length (k .list-is), cells-length bytes 10 (pair bytes 8)))
-      (λ b. cases (eqb (pair bytes 2) 19)
-      (λ c. let k = uplevel-fields (eqb-true _ _ c) in omega (arith, k .end-is, ap length (k .list-is), fields-length bytes 16 (2 * pair bytes 14)))
-      (λ c. cases (eqb (pair bytes 2) 20)
-      (λ d. let k = select-fields (eqb-true _ _ d) in omega (arith, k .end-is, ap length (k .list-is), fields-length bytes 10 (pair bytes 8)))
-      (λ d. let k = none-listed (eqb-false _ _ a) (eqb-false _ _ b) (eqb-false _ _ c) (eqb-false _ _ d) in omega (arith, ap length (k .list-is))))))
+      cases (hasCells bytes)
+      (λ a. let k = cells-listed a in omega (arith, k .end-is, ap length (k .list-is), cells-length bytes 10 (pair bytes 8)))
+      (λ a. cases (eqb (pair bytes 2) 19)
+      (λ b. let k = uplevel-fields (eqb-true _ _ b) in omega (arith, k .end-is, ap length (k .list-is), fields-length bytes 16 (2 * pair bytes 14)))
+      (λ b. cases (eqb (pair bytes 2) 20)
+      (λ c. let k = select-fields (eqb-true _ _ c) in omega (arith, k .end-is, ap length (k .list-is), fields-length bytes 10 (pair bytes 8)))
+      (λ c. let k = none-listed a (eqb-false _ _ b) (eqb-false _ _ c) in omega (arith, ap length (k .list-is)))))
 
   pub list-short : isStatement bytes ≡ true → length (listOf bytes) ≤ 512
   list-short s = listed-room (list-room s)

@@ -2,3 +2,5 @@ pub mod Behind
 pub mod Written
 pub mod Extents
 pub mod Outcomes
+pub mod Settled
+pub mod Worked

@@ -3,7 +3,7 @@
 use Prim.Native.Nat.{ℕ, suc, _+_, _*_, _-_, _/_, _%_, min}
 use mathlib.Core.Bool.{Bool}
 use mathlib.Core.List.{List}
-use lib.Dec.{eqb, ltb, leb}
+use lib.Dec.{eqb, ltb}
 use lib.ListN.{length, set, replicate}
 use Rattle.bounded.specs.Tests.{if_then_else_}
 use Rattle.bounded.specs.Lists.{listBelow, writeAt}
@@ -31,7 +31,7 @@ nothing =
 unfoldable pub isLabels : List ℕ → Bool
 isLabels bytes = eqb (length bytes % 2) 0
 
--- how many: a body of 1,024 bytes holds 512
+-- how many: a whole record holds at most 512
 unfoldable pub labelCount : List ℕ → ℕ
 labelCount bytes = min ((length bytes - 4) / 2) 512
 
@@ -42,7 +42,7 @@ labelAt bytes level = if ltb level (labelCount bytes) then pair bytes (4 + 2 * l
 unfoldable pub labelsOf : List ℕ → List ℕ
 labelsOf bytes = listBelow 16 (λ level. labelAt bytes level)
 
--- the description with these labels; it holds 16, and counts all
+-- the description with these labels; it holds sixteen, and counts all
 unfoldable pub labelled : Description → List ℕ → Description
 labelled d bytes =
     record {

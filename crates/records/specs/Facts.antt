@@ -6,18 +6,12 @@ use mathlib.Core.List.{List}
 use lib.ListN.{length}
 use Rattle.bounded.specs.Lists.{writeAt}
 use Rattle.records.specs.declared.Read.{Read}
-use Rattle.records.specs.Statements.{listOf, conditionsOf, readOf, listRead, conditionsRead}
+use Rattle.records.specs.Statements.{readOf, listRead, conditionsRead}
 
 -- numbers stand at the front of what is lent, and this is how many they are
 pub record Filled (numbers lent lent′ : List ℕ) (count : ℕ) : Type 0 where
   pub count-is : count ≡ length numbers
   pub lent-is : lent′ ≡ writeAt 0 numbers lent
-
-abbrev pub ListFilled : List ℕ → List ℕ → List ℕ → ℕ → Type 0
-ListFilled bytes list list′ count = Filled (listOf bytes) list list′ count
-
-abbrev pub ConditionsFilled : List ℕ → List ℕ → List ℕ → ℕ → Type 0
-ConditionsFilled bytes conditions conditions′ count = Filled (conditionsOf bytes) conditions conditions′ count
 
 -- what a record is read to, and what both lent lists hold afterwards
 pub record Reading (bytes : List ℕ) (number : ℕ) (list list′ conditions conditions′ : List ℕ) (answer : Read) : Type 0 where

@@ -33,11 +33,15 @@ statementOf bytes = record { level = pair bytes 4; relation = pair bytes 6; what
 
 -- ---- its list
 
+-- whether it is of columns and values
+unfoldable pub hasCells : List ℕ → Bool
+hasCells bytes = eqb (kind bytes) 16 || eqb (kind bytes) 18
+
 -- "16 INSERT: level, relation, n, n of (column, value)"; "18 UPDATE: as 16, then conditions";
 -- "19 UPLEVEL: level, relation, key, key class or 255, n, n of (column, FROM)"; "20 SELECT: level, relation, n, n levels, conditions"
 unfoldable pub listOf : List ℕ → List ℕ
 listOf bytes =
-    if eqb (kind bytes) 16 || eqb (kind bytes) 18 then cellsFrom bytes 10 (pair bytes 8)
+    if hasCells bytes then cellsFrom bytes 10 (pair bytes 8)
     else if eqb (kind bytes) 19 then fieldsFrom bytes 16 (2 * pair bytes 14)
     else if eqb (kind bytes) 20 then fieldsFrom bytes 10 (pair bytes 8)
     else []
@@ -45,7 +49,7 @@ listOf bytes =
 -- where the list ends; "17 DELETE: level, relation, conditions" has none
 unfoldable pub listEnd : List ℕ → ℕ
 listEnd bytes =
-    if eqb (kind bytes) 16 || eqb (kind bytes) 18 then 10 + 6 * pair bytes 8
+    if hasCells bytes then 10 + 6 * pair bytes 8
     else if eqb (kind bytes) 19 then 16 + 4 * pair bytes 14
     else if eqb (kind bytes) 20 then 10 + 2 * pair bytes 8
     else 8

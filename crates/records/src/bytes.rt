@@ -25,14 +25,14 @@ pub fn pair(bytes: &[u8], at: usize) -> u16
 }
 
 // Two bytes, for a list of numbers of four.
-pub fn field(bytes: &[u8], at: usize) -> u32
+pub(crate) fn field(bytes: &[u8], at: usize) -> u32
     ensures { λ r. ⌜ (r ≡ pairOf (now (bytes .entry)) at) × (r ≤ 65535) ⌝ }
 {
     pair(bytes, at) as u32
 }
 
 // Two bytes, for a count.
-pub fn count(bytes: &[u8], at: usize) -> usize
+pub(crate) fn count(bytes: &[u8], at: usize) -> usize
     ensures { λ r. ⌜ (r ≡ pairOf (now (bytes .entry)) at) × (r ≤ 65535) ⌝ }
 {
     pair(bytes, at) as usize

@@ -122,18 +122,18 @@ fn with_relation(bytes: &[u8], description: Description, relation: usize) -> Des
     requires { ⌜ relation ≤ 8 ⌝ }
     ensures { λ r. ⌜ r ≡ withRelation description relation (now (bytes .entry)) ⌝ }
 {
-    let before = description.low;
-    let low = ends(bytes, 12, relation, before);
-    let above = description.high;
-    let high = ends(bytes, 14, relation, above);
+    let low = description.low;
+    let lows = ends(bytes, 12, relation, low);
+    let high = description.high;
+    let highs = ends(bytes, 14, relation, high);
     let mut next = description;
     next.relations = relation as u16;
     next.columns[relation] = pair(bytes, 4);
     next.rows[relation] = pair(bytes, 6);
     next.foreign[relation] = pair(bytes, 8);
     next.refers[relation] = pair(bytes, 10);
-    next.low = low;
-    next.high = high;
+    next.low = lows;
+    next.high = highs;
     next
 }
 

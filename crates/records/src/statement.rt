@@ -14,8 +14,8 @@ ghost use Prim.Native.Nat.{_*_, _≤_};
 ghost use lib.ListN.{length};
 ghost use Rattle.bounded.specs.Lists.{writeAt};
 ghost use Rattle.records.specs.Bytes.{fieldsFrom, cellsFrom, testsFrom};
-ghost use Rattle.records.specs.Statements.{whatOf, listEnd, hasConditions, conditionCount, lengthAsked, isStatement};
-ghost use Rattle.records.specs.Facts.{ListFilled, ConditionsFilled, Reading};
+ghost use Rattle.records.specs.Statements.{whatOf, hasCells, listOf, listEnd, hasConditions, conditionCount, conditionsOf, lengthAsked, isStatement};
+ghost use Rattle.records.specs.Facts.{Filled, Reading};
 
 // ---- what its kind and its counts say
 
@@ -41,17 +41,25 @@ fn what(bytes: &[u8]) -> What
     What::Select
 }
 
+// Whether the list is of columns and values.
+fn has_cells(bytes: &[u8]) -> bool
+    ensures { λ r. ⌜ r ≡ hasCells (now (bytes .entry)) ⌝ }
+{
+    let kind = pair(bytes, 2);
+    if kind == 16 {
+        return true;
+    }
+    kind == 18
+}
+
 // Where the list ends.
 fn list_end(bytes: &[u8]) -> usize
     ensures { λ r. ⌜ (r ≡ listEnd (now (bytes .entry))) × (r ≤ 400000) ⌝ }
 {
+    if has_cells(bytes) {
+        return 10 + 6 * count(bytes, 8);
+    }
     let kind = pair(bytes, 2);
-    if kind == 16 {
-        return 10 + 6 * count(bytes, 8);
-    }
-    if kind == 18 {
-        return 10 + 6 * count(bytes, 8);
-    }
     if kind == 19 {
         return 16 + 4 * count(bytes, 14);
     }
@@ -155,18 +163,14 @@ fn tests(bytes: &[u8], list: &mut [u32], at: usize, n: usize)
 // The statement's list; how many numbers it has.
 fn fill_list(bytes: &[u8], list: &mut [u32]) -> usize
     requires { ⌜ (isStatement (now bytes) ≡ true) × (length (now list) ≡ 512) ⌝ }
-    ensures { λ r. ⌜ ListFilled (now (bytes .entry)) (now (list .entry)) (now (list .exit)) r ⌝ }
+    ensures { λ r. ⌜ Filled (listOf (now (bytes .entry))) (now (list .entry)) (now (list .exit)) r ⌝ }
 {
-    let kind = pair(bytes, 2);
     let n = count(bytes, 8);
-    if kind == 16 {
+    if has_cells(bytes) {
         cells(bytes, list, 10, n);
         return 2 * n;
     }
-    if kind == 18 {
-        cells(bytes, list, 10, n);
-        return 2 * n;
-    }
+    let kind = pair(bytes, 2);
     if kind == 19 {
         let twice = 2 * count(bytes, 14);
         fields(bytes, list, 16, twice);
@@ -182,7 +186,7 @@ fn fill_list(bytes: &[u8], list: &mut [u32]) -> usize
 // The statement's conditions; how many numbers they have.
 fn fill_conditions(bytes: &[u8], conditions: &mut [u32]) -> usize
     requires { ⌜ (isStatement (now bytes) ≡ true) × (length (now conditions) ≡ 512) ⌝ }
-    ensures { λ r. ⌜ ConditionsFilled (now (bytes .entry)) (now (conditions .entry)) (now (conditions .exit)) r ⌝ }
+    ensures { λ r. ⌜ Filled (conditionsOf (now (bytes .entry))) (now (conditions .entry)) (now (conditions .exit)) r ⌝ }
 {
     let at = list_end(bytes);
     let n = condition_count(bytes);

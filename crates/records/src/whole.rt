@@ -6,7 +6,7 @@ ghost use Rattle.model.specs.Description.{between as betweenOf};
 ghost use Rattle.records.specs.Record.{whole as wholeOf, follows as followsOf, kindAfter};
 
 // Whether a record is neither cut nor longer than its header says, with a body of at most 1,024 bytes.
-pub fn is_whole(bytes: &[u8]) -> bool
+pub(crate) fn is_whole(bytes: &[u8]) -> bool
     ensures { λ r. ⌜ r ≡ wholeOf (now (bytes .entry)) ⌝ }
 {
     if bytes.len() < 4 {
@@ -20,7 +20,7 @@ pub fn is_whole(bytes: &[u8]) -> bool
 }
 
 // Whether a number is in a range.
-pub fn between(low: u16, high: u16, n: u16) -> bool
+pub(crate) fn between(low: u16, high: u16, n: u16) -> bool
     ensures { λ r. ⌜ r ≡ betweenOf low high n ⌝ }
 {
     if n < low {

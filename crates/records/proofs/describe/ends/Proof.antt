@@ -1,6 +1,7 @@
+-- The invariant: the ends of the columns passed are written.
 use borrow.Author.Needs.{needs}
 use Prim.Native.Nat.{_+_, _*_, _≤_, _-_}
-use mathlib.Core.Path.{_≡_, sym, _∙_}
+use mathlib.Core.Path.{_≡_}
 use native.Mathlib.Omega.{arith}
 use lib.ListN.{length}
 use Rattle.bounded.specs.Lists.{listBelow, writeAt}
@@ -68,4 +69,22 @@ returns c =
     rw (← h) (numbers-end _ _ _ _ _ (l .inv .2) (l .inv .0) (c .loop-test .left))
 
 pub ends-spec : {M : Type 1} → statement M
-ends-spec = tie.close (tie.spec Inv-loop μ-loop held-requires loop-holds mul-pair add-pair pair-requires mul-next add-next add-next-2 mul-next-2 array-write-next add-k loop-less loop-again returns)
+ends-spec =
+    tie.close
+    (tie.spec
+    Inv-loop
+    μ-loop
+    held-requires
+    loop-holds
+    mul-pair
+    add-pair
+    pair-requires
+    mul-next
+    add-next
+    add-next-2
+    mul-next-2
+    array-write-next
+    add-k
+    loop-less
+    loop-again
+    returns)

@@ -1,3 +1,4 @@
+-- The invariant: the labels of the levels passed are written.
 use borrow.Author.Needs.{needs}
 use Prim.Native.Nat.{_≤_, _-_}
 use mathlib.Core.Path.{_≡_, refl, sym, _∙_}
@@ -47,4 +48,16 @@ returns c =
     numbers-end 16 _ 0 _ _ (l .inv .2) (l .inv .0) (c .loop-test .left) ∙ write-whole _ _ (list-length 16 _ ∙ sym (l .inv .1))
 
 pub sixteen-spec : {M : Type 1} → statement M
-sixteen-spec = tie.close (tie.spec Inv-loop μ-loop loop-holds label-requires mul-labels array-write-labels add-level loop-less loop-again returns)
+sixteen-spec =
+    tie.close
+    (tie.spec
+    Inv-loop
+    μ-loop
+    loop-holds
+    label-requires
+    mul-labels
+    array-write-labels
+    add-level
+    loop-less
+    loop-again
+    returns)

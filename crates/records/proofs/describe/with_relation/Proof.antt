@@ -55,4 +55,22 @@ returns c =
     rw (c .pair4 .ensures, c .before .pair3 .ensures, c .before .before .pair2 .ensures, c .before .before .before .pair .ensures, e .ends2 .ensures, e .before .before .ends .ensures)
 
 pub with-relation-spec : {M : Type 1} → statement M
-with-relation-spec = tie.close (tie.spec ends-requires ends-requires-2 cast-next pair-requires mul-next element-write-next pair-requires-2 mul-next-2 element-write-next-2 pair-requires-3 mul-next-3 element-write-next-3 pair-requires-4 mul-next-4 element-write-next-4 returns)
+with-relation-spec =
+    tie.close
+    (tie.spec
+    ends-requires
+    ends-requires-2
+    cast-next
+    pair-requires
+    mul-next
+    element-write-next
+    pair-requires-2
+    mul-next-2
+    element-write-next-2
+    pair-requires-3
+    mul-next-3
+    element-write-next-3
+    pair-requires-4
+    mul-next-4
+    element-write-next-4
+    returns)

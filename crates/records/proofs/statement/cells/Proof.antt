@@ -1,3 +1,4 @@
+-- The invariant: the columns and values passed are written.
 use borrow.Author.Needs.{needs}
 use Prim.Native.Nat.{_+_, _*_, _≤_, _-_}
 use mathlib.Core.Path.{_≡_, refl, sym}
@@ -92,4 +93,28 @@ returns c =
     pieces-end _ _ _ _ (l .inv .3) (l .inv .0) (c .loop-test .left)
 
 pub cells-spec : {M : Type 1} → statement M
-cells-spec = tie.close (tie.spec Inv-loop μ-loop loop-holds mul-field add-field field-requires mul-list mul-list-2 slice-write-list mul-quad add-quad add-quad-2 quad-requires mul-list-3 add-list mul-list-4 slice-write-list-2 add-i loop-less loop-again same-length returns)
+cells-spec =
+    tie.close
+    (tie.spec
+    Inv-loop
+    μ-loop
+    loop-holds
+    mul-field
+    add-field
+    field-requires
+    mul-list
+    mul-list-2
+    slice-write-list
+    mul-quad
+    add-quad
+    add-quad-2
+    quad-requires
+    mul-list-3
+    add-list
+    mul-list-4
+    slice-write-list-2
+    add-i
+    loop-less
+    loop-again
+    same-length
+    returns)

@@ -1,6 +1,7 @@
+-- The invariant: the fields passed are written.
 use borrow.Author.Needs.{needs}
 use Prim.Native.Nat.{_+_, _*_, _≤_, _-_}
-use mathlib.Core.Path.{_≡_, sym}
+use mathlib.Core.Path.{_≡_}
 use native.Mathlib.Omega.{arith}
 use lib.ListN.{length, length-set}
 use Rattle.bounded.specs.Lists.{listBelow, writeAt}
@@ -63,4 +64,19 @@ returns c =
     numbers-end _ _ 0 _ _ (l .inv .3) (l .inv .0) (c .loop-test .left)
 
 pub fields-spec : {M : Type 1} → statement M
-fields-spec = tie.close (tie.spec Inv-loop μ-loop loop-holds mul-field add-field field-requires mul-list slice-write-list add-i loop-less loop-again same-length returns)
+fields-spec =
+    tie.close
+    (tie.spec
+    Inv-loop
+    μ-loop
+    loop-holds
+    mul-field
+    add-field
+    field-requires
+    mul-list
+    slice-write-list
+    add-i
+    loop-less
+    loop-again
+    same-length
+    returns)

@@ -34,4 +34,13 @@ returns c =
     filled (rw (e .before .list-end .ensures .0, e .condition-count .ensures .0)) (tests-length _ _ _) (c .before .before .tests .ensures)
 
 pub fill-conditions-spec : {M : Type 1} → statement M
-fill-conditions-spec = tie.close (tie.spec list-end-requires condition-count-requires add-tests tests-requires mul-result same-length returns)
+fill-conditions-spec =
+    tie.close
+    (tie.spec
+    list-end-requires
+    condition-count-requires
+    add-tests
+    tests-requires
+    mul-result
+    same-length
+    returns)

@@ -33,4 +33,14 @@ returns-2 c =
     rw (← (e .has-conditions .ensures), not-false (e .has-conditions .result) (c .before .if1 .left), e .before .list-end .ensures .0, c .condition-count .ensures .0)
 
 pub length-asked-spec : {M : Type 1} → statement M
-length-asked-spec = tie.close (tie.spec list-end-requires has-conditions-requires returns add-result condition-count-requires mul-result add-result-2 returns-2)
+length-asked-spec =
+    tie.close
+    (tie.spec
+    list-end-requires
+    has-conditions-requires
+    returns
+    add-result
+    condition-count-requires
+    mul-result
+    add-result-2
+    returns-2)

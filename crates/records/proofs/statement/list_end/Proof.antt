@@ -6,8 +6,8 @@ use Rattle.records.specs.Statements.{listEnd}
 use Rattle.records.proofs.statement.list_end.Statement.{statement}
 use Rattle.records.proofs.statement.list_end.Tie as tie
 
-pair-requires : tie.Need-pair-requires
-pair-requires c κs = search needs
+has-cells-requires : tie.Need-has-cells-requires
+has-cells-requires c κs = search needs
 
 count-requires : tie.Need-count-requires
 count-requires c κs = search needs
@@ -20,7 +20,10 @@ add-result c = search needs
 
 returns : tie.Need-returns
 unfolding listEnd
-returns c = (rw (sym (c .before .before .pair .ensures) ∙ c .before .if1 .taken, c .count .ensures .0), omega arith)
+returns c = (rw (← (c .before .before .has-cells .ensures), c .before .if1 .taken, c .count .ensures .0), omega arith)
+
+pair-requires : tie.Need-pair-requires
+pair-requires c κs = search needs
 
 count-requires-2 : tie.Need-count-requires-2
 count-requires-2 c κs = search needs
@@ -33,7 +36,11 @@ add-result-2 c = search needs
 
 returns-2 : tie.Need-returns-2
 unfolding listEnd
-returns-2 c = (rw (sym (c .before .before .before .pair .ensures) ∙ c .before .if2 .taken, c .count2 .ensures .0), omega arith)
+returns-2 c =
+    let e = c .before .before in (
+      rw (← (e .before .before .has-cells .ensures), e .before .if1 .left, sym (e .pair .ensures) ∙ c .before .if2 .taken, c .count2 .ensures .0),
+      omega arith,
+    )
 
 count-requires-3 : tie.Need-count-requires-3
 count-requires-3 c κs = search needs
@@ -46,28 +53,36 @@ add-result-3 c = search needs
 
 returns-3 : tie.Need-returns-3
 unfolding listEnd
-returns-3 c = (rw (sym (c .before .before .before .before .pair .ensures) ∙ c .before .if3 .taken, c .count3 .ensures .0), omega arith)
-
-count-requires-4 : tie.Need-count-requires-4
-count-requires-4 c κs = search needs
-
-mul-result-4 : tie.Need-mul-result-4
-mul-result-4 c = search needs
-
-add-result-4 : tie.Need-add-result-4
-add-result-4 c = search needs
+returns-3 c =
+    let e = c .before .before .before in (
+      rw (← (e .before .before .has-cells .ensures), e .before .if1 .left, sym (e .pair .ensures) ∙ c .before .if3 .taken, c .count3 .ensures .0),
+      omega arith,
+    )
 
 returns-4 : tie.Need-returns-4
 unfolding listEnd
-returns-4 c = (rw (sym (c .before .before .before .before .before .pair .ensures) ∙ c .before .if4 .taken, c .count4 .ensures .0), omega arith)
-
-returns-5 : tie.Need-returns-5
-unfolding listEnd
-returns-5 c =
+returns-4 c =
     let e = c .before .before in (
-      rw (← (e .before .before .pair .ensures), ne-eqb _ _ (e .before .if1 .left), ne-eqb _ _ (e .if2 .left), ne-eqb _ _ (c .before .if3 .left), ne-eqb _ _ (c .if4 .left)),
+      rw (← (e .before .before .has-cells .ensures), e .before .if1 .left, ← (e .pair .ensures), ne-eqb _ _ (c .before .if2 .left), ne-eqb _ _ (c .if3 .left)),
       omega arith,
     )
 
 pub list-end-spec : {M : Type 1} → statement M
-list-end-spec = tie.close (tie.spec pair-requires count-requires mul-result add-result returns count-requires-2 mul-result-2 add-result-2 returns-2 count-requires-3 mul-result-3 add-result-3 returns-3 count-requires-4 mul-result-4 add-result-4 returns-4 returns-5)
+list-end-spec =
+    tie.close
+    (tie.spec
+    has-cells-requires
+    count-requires
+    mul-result
+    add-result
+    returns
+    pair-requires
+    count-requires-2
+    mul-result-2
+    add-result-2
+    returns-2
+    count-requires-3
+    mul-result-3
+    add-result-3
+    returns-3
+    returns-4)

@@ -39,4 +39,14 @@ returns-2 c =
     (rw (c .before .before .pair .ensures, c .before .pair2 .ensures, c .what .ensures)) (l .fill-list .ensures) (f .fill-conditions .ensures)
 
 pub statement-spec : {M : Type 1} → statement M
-statement-spec = tie.close (tie.spec is-statement-requires returns fill-list-requires fill-conditions-requires pair-requires pair-requires-2 what-requires returns-2)
+statement-spec =
+    tie.close
+    (tie.spec
+    is-statement-requires
+    returns
+    fill-list-requires
+    fill-conditions-requires
+    pair-requires
+    pair-requires-2
+    what-requires
+    returns-2)

@@ -1,3 +1,4 @@
+-- The invariant: the conditions passed are written.
 use borrow.Author.Needs.{needs}
 use Prim.Native.Nat.{_+_, _*_, _≤_, _-_}
 use mathlib.Core.Path.{_≡_, refl, sym}
@@ -140,4 +141,44 @@ returns c =
     pieces-end _ _ _ _ (l .inv .3) (l .inv .0) (c .loop-test .left)
 
 pub tests-spec : {M : Type 1} → statement M
-tests-spec = tie.close (tie.spec Inv-loop μ-loop loop-holds mul-field add-field field-requires mul-list mul-list-2 slice-write-list mul-field-2 add-field-2 add-field-3 field-requires-2 mul-list-3 add-list mul-list-4 slice-write-list-2 mul-field-3 add-field-4 add-field-5 field-requires-3 mul-list-5 add-list-2 mul-list-6 slice-write-list-3 mul-quad add-quad add-quad-2 quad-requires mul-list-7 add-list-3 mul-list-8 slice-write-list-4 add-i loop-less loop-again same-length returns)
+tests-spec =
+    tie.close
+    (tie.spec
+    Inv-loop
+    μ-loop
+    loop-holds
+    mul-field
+    add-field
+    field-requires
+    mul-list
+    mul-list-2
+    slice-write-list
+    mul-field-2
+    add-field-2
+    add-field-3
+    field-requires-2
+    mul-list-3
+    add-list
+    mul-list-4
+    slice-write-list-2
+    mul-field-3
+    add-field-4
+    add-field-5
+    field-requires-3
+    mul-list-5
+    add-list-2
+    mul-list-6
+    slice-write-list-3
+    mul-quad
+    add-quad
+    add-quad-2
+    quad-requires
+    mul-list-7
+    add-list-3
+    mul-list-8
+    slice-write-list-4
+    add-i
+    loop-less
+    loop-again
+    same-length
+    returns)
