@@ -1,21 +1,15 @@
 -- What the readers of a statement's lists know and promise.
 -- Assumes nothing: these are definitions and statements.
 use mathlib.Core.Path.{_≡_}
-use mathlib.Core.Bool.{Bool, true, false, not, _&&_}
+use mathlib.Core.Bool.{Bool, _&&_}
 use mathlib.Core.List.{List}
-use Prim.Native.Nat.{ℕ, _≤_, _<_}
+use Prim.Native.Nat.{ℕ, _≤_}
 use lib.Dec.{eqb}
-use lib.ListN.{length, getD}
-use Rattle.bounded.specs.Tests.{if_then_else_}
-use Rattle.bounded.specs.Bounded.{firstBelow, countBelow}
+use Rattle.bounded.specs.Bounded.{firstBelow}
 use Rattle.level.specs.Order.{orderOf}
 use Rattle.model.specs.declared.Description.{Description}
 use Rattle.model.specs.Description.{isLevel, isColumn, over, inRange, columnCount}
-use Rattle.model.specs.Tables.{Row}
 use Rattle.model.specs.Listed.{pairs, columnAt}
-use Rattle.model.specs.Conditions.{Condition, conditionsFormed, meets, met}
-use Rattle.cells.specs.Changed.{valueAt}
-use Rattle.asked.specs.declared.conditions.Asked.{Asked}
 use Rattle.asked.specs.declared.pairs.Rule.{Rule}
 use Rattle.asked.specs.declared.pairs.Rule.the-variants as Rules
 
@@ -45,63 +39,3 @@ ruleOf d r (Rules.Above c) k a = over d a c
 pub record Found (list : List ℕ) (k i : ℕ) : Type 0 where
   pub is : i ≡ firstBelow (pairs list) (λ j. eqb (columnAt list j) k)
   pub most : i ≤ pairs list
-
--- ---- conditions
-
--- a condition that was read from a list
-abbrev pub asks : Asked → Condition
-asks a = record { column = a .column; mark = a .mark; test = a .test; constant = a .constant }
-
--- `passes`, where it is known whether x is the constant and whether it is at most the constant
-unfoldable pub passesBy : ℕ → Bool → Bool → Bool
-passesBy test equal most =
-    if eqb test 1 then equal
-    else if eqb test 2 then not equal
-    else if eqb test 3 then most && not equal
-    else if eqb test 4 then most
-    else false
-
--- "For classes, 3 is strictly dominated by and 4 dominated by."
-unfoldable pub atMost : Description → ℕ → ℕ → Bool
-atMost d a b = over d b a
-
--- the levels that level a dominates; no number past the line's end is one of them
-pub record Line (d : Description) (a : ℕ) (line : List Bool) : Type 0 where
-  pub long : length line ≡ 16
-  pub right : (b : ℕ) → getD line b false ≡ over d a b
-
--- a column that exists, and the levels that a constant dominates
-pub record Tested (d : Description) (r : ℕ) (q : Condition) (line : List Bool) : Type 0 where
-  pub least : 0 < q .column
-  pub most : q .column ≤ columnCount d r
-  pub tells : Line d (q .constant) line
-
--- conditions that are well formed, and the order
-pub record Asking (d : Description) (order : List (List Bool)) (r : ℕ) (conditions : List ℕ) : Type 0 where
-  pub ordered : Ordered d order
-  pub formed : conditionsFormed d r conditions ≡ true
-
--- the first n marks say where f is true, and no other is set
-pub record Marked (n : ℕ) (f : ℕ → Bool) (marks : List Bool) : Type 0 where
-  pub long : length marks ≡ 64
-  pub right : (i : ℕ) → i < n → getD marks i false ≡ f i
-  pub rest : (i : ℕ) → n ≤ i → getD marks i false ≡ false
-
--- the marks of those of n rows that meet one condition more, the other marks as they were
-pub record Narrowed (d : Description) (B : ℕ → Row) (n : ℕ) (q : Condition) (before after : List Bool) : Type 0 where
-  pub long : length after ≡ 64
-  pub right : (i : ℕ) → i < n → getD after i false ≡ (getD before i false && meets d q (B i))
-  pub rest : (i : ℕ) → n ≤ i → getD after i false ≡ getD before i false
-
--- row i of a level is in use
-unfoldable pub usedRow : Description → List ℕ → ℕ → ℕ → ℕ → Bool
-usedRow d values r l i = not (eqb (valueAt d values r l i 1) 0)
-
--- row i of a level is in use and meets every condition
-unfoldable pub metAt : Description → List ℕ → (ℕ → Row) → ℕ → Bool
-metAt d conditions B i = met d conditions (B i)
-
--- n is how many of the first marks are set
-pub record Counted (rows : ℕ) (marks : List Bool) (n : ℕ) : Type 0 where
-  pub is : n ≡ countBelow rows (λ i. getD marks i false)
-  pub few : n ≤ rows

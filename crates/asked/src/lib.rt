@@ -1,5 +1,4 @@
-// What a statement's lists say: which columns and levels they name, and which rows meet the conditions.
-pub mod conditions;
+// What a statement's lists say: which columns and levels they name.
 pub mod levels;
 pub mod pairs;
 pub mod ranges;

@@ -1,6 +1,6 @@
 -- A number stored at a cell's place changes that cell and no other.
 -- Assumes nothing.
-use Prim.Native.Nat.{ℕ, _<_}
+use Prim.Native.Nat.{ℕ, _≤_, _<_}
 use mathlib.Core.Path.{_≡_, refl, sym, ap, ap₂, _∙_, fun-ext}
 use mathlib.Core.Bool.{Bool, true, false, _&&_}
 use mathlib.Core.List.{List}
@@ -13,10 +13,11 @@ use Rattle.bounded.specs.Tests.{if_then_else_, Reflects}
 use Rattle.bounded.proofs.Cases.{cases}
 use Rattle.bounded.proofs.Reflection.{is-true, is-false, of-true, of-false, and-r, eqb-r, reflects-as}
 use Rattle.model.specs.declared.Description.{Description}
-use Rattle.model.specs.Description.{totalOf}
+use Rattle.model.specs.Description.{totalOf, columnCount}
 use Rattle.model.specs.Tables.{Cell, Row, cell, nocell, Level, State}
 use Rattle.model.specs.Buffers.{Buffers, inside, positionOf, stateOf}
 use Rattle.model.proofs.Border.{Inside, inside-says, inside-shown}
+use Rattle.cells.specs.Layout.{InRow}
 use Rattle.cells.specs.Changed.{holding, numberAt, valueAt, classAt, withCell, withValue, changeLevel}
 use Rattle.cells.proofs.Places.{Same, position-below, position-one}
 
@@ -24,6 +25,11 @@ use Rattle.cells.proofs.Places.{Same, position-below, position-one}
 pub state-cell : (d : Description) (vs cs : List ℕ) (r l i k : ℕ) → stateOf d (holding vs cs) l .rows r i k ≡ cell (valueAt d vs r l i k) (classAt d cs r l i k)
 unfolding stateOf numberAt
 state-cell d vs cs r l i k = cases (inside d r l i k) (λ t. rw t) (λ t. rw t)
+
+-- each column of a row has a cell
+pub row-inside : (d : Description) (r l i k : ℕ) → InRow d r l i → 0 < k → k ≤ columnCount d r → inside d r l i k ≡ true
+row-inside d r l i k R h m =
+    inside-shown d r l i k (record { relation = R .level .relation; level = R .level .level; row = R .row; least = h; column = m })
 
 -- a number read at its place
 pub number-inside : (empty : ℕ) (d : Description) (xs : List ℕ) (r l i k : ℕ) → Inside d r l i k → numberAt empty d xs r l i k ≡ getD xs (positionOf d r l i k) 0

@@ -27,7 +27,7 @@ use Rattle.model.proofs.Sound.{between-r}
 use Rattle.cells.specs.declared.layout.Part.{Part}
 use Rattle.cells.specs.Changed.{holding, valueAt, keyPlace, changeLevel}
 use Rattle.cells.proofs.Cells.{state-cell}
-use Rattle.asked.specs.Facts.{Marked, Counted, metAt}
+use Rattle.conditions.specs.Facts.{Marked, Counted, metAt}
 use Rattle.above.specs.declared.Plan.{Plan}
 use Rattle.above.specs.Facts.{markedAt, changeOf, aboveOf, carried, withRows, Working, Planned}
 use Rattle.above.proofs.Carried.{carried-own}

@@ -1,13 +1,13 @@
 // DELETE.
 use above::Plan;
 use above::above;
-use asked::conditions::count;
-use asked::conditions::marks;
 use cells::layout::Part;
 use cells::layout::lay;
 use cells::read::value_at;
 use cells::search::find;
 use cells::write::clear;
+use conditions::count;
+use conditions::marks;
 use model::Answer;
 use model::Description;
 use model::Fault;

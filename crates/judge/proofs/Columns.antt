@@ -19,9 +19,11 @@ use Rattle.model.specs.Description as Described
 use Rattle.model.specs.Description.{over, columnCount, isColumn, highOf, lowOf, inRange}
 use Rattle.model.specs.Tables.{Cell, Row, Tables, cell, nocell, same, place, at, lends}
 use Rattle.model.specs.Judge.{fits, cellRight}
-use Rattle.judge.specs.declared.areas.Area.{Area}
-use Rattle.judge.specs.Facts.{tablesOf, hasKey, hasBit, Leveled, Ready, InRow, Fitting, Between, Ranges, Orders}
-use Rattle.judge.proofs.Sets.{bit-and}
+use Rattle.keys.specs.declared.areas.Area.{Area}
+use Rattle.describe.specs.Facts.{Leveled}
+use Rattle.keys.specs.Facts.{hasKey, hasBit, Ranges, Orders}
+use Rattle.judge.specs.Facts.{tablesOf, Ready, InRow, Fitting, Between}
+use Rattle.keys.proofs.Sets.{bit-and}
 use Rattle.judge.proofs.Places.{spot, place-found, at-found}
 
 -- ---- classes

@@ -19,7 +19,7 @@ use Rattle.model.specs.Tables.{Cell, Tables, cell, nocell, norow, same, used, e
 use Rattle.model.specs.Buffers.{inside}
 use Rattle.model.specs.Judge.{cellRight, referenceRight, rowRight}
 use Rattle.model.proofs.Border.{state-framed}
-use Rattle.judge.specs.declared.areas.Area.{Area}
+use Rattle.keys.specs.declared.areas.Area.{Area}
 use Rattle.judge.specs.Facts.{tablesOf, namesRight, rightRow, Ready, InRow, Refers}
 use Rattle.judge.proofs.Places.{key-is, at-found, at-none, key-class, key-value}
 use Rattle.judge.proofs.Columns.{fits-out, cell-null, cell-unfit, own-place, key-cell, stood-cell}

@@ -22,11 +22,14 @@ use Rattle.model.specs.Tables.{Cell, Tables, cell, used, place}
 use Rattle.model.specs.Buffers.{Buffers, fitting, positionOf, stateOf}
 use Rattle.model.specs.Judge.{rowRight, legal, judge}
 use Rattle.model.proofs.Border.{Inside, inside-shown}
-use Rattle.judge.specs.declared.areas.Area.{Area}
-use Rattle.judge.specs.Facts.{tablesOf, hasKey, firstOf, Sane, Starting, areaOf, Keyed, distinctKeys, relationRight, tablesRight, Ready, Refers, Laid}
-use Rattle.judge.proofs.Starts.{Standing, standing, keys-room, cells-room, refers-of}
-use Rattle.judge.proofs.Search.{first-none}
-use Rattle.judge.proofs.Once.{once-of}
+use Rattle.keys.specs.declared.areas.Area.{Area}
+use Rattle.describe.specs.Facts.{Sane}
+use Rattle.keys.specs.Facts.{hasKey, firstOf, Starting, areaOf, Keyed, distinctKeys}
+use Rattle.judge.specs.Facts.{tablesOf, relationRight, tablesRight, Ready, Refers, Laid}
+use Rattle.describe.proofs.Sizes.{refers-of}
+use Rattle.keys.proofs.Starts.{Standing, standing, keys-room, cells-room}
+use Rattle.keys.proofs.Sought.{first-none}
+use Rattle.keys.proofs.Once.{once-of}
 
 -- ---- the cells of relation r + 1
 

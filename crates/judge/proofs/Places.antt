@@ -16,8 +16,9 @@ use Rattle.bounded.proofs.Cases.{cases}
 use Rattle.bounded.proofs.First.{first-holds, first-cong}
 use Rattle.model.specs.declared.Description.{Description}
 use Rattle.model.specs.Tables.{Cell, Tables, cell, norow, same, place, seek, at, lends}
-use Rattle.judge.specs.declared.areas.Area.{Area}
-use Rattle.judge.specs.Facts.{tablesOf, hasKey, Ready, lenderOf, Known}
+use Rattle.keys.specs.declared.areas.Area.{Area}
+use Rattle.keys.specs.Facts.{hasKey}
+use Rattle.judge.specs.Facts.{tablesOf, Ready, lenderOf, Known}
 
 digit-lt : {a b n m : ℕ} → a < n → b < m → a * m + b < n * m
 digit-lt {a} {b} {n} {m} h k = omega (arith, mul-le-mul-right m h)

@@ -2,13 +2,9 @@
 -- Assumes nothing.
 use mathlib.Core.Path.{sym, _∙_}
 use Rattle.level.proofs.Settled.{Settled}
-use Rattle.judge.proofs.sound.Reads as sound
 use Rattle.judge.proofs.legal.Reads as legal
 use Rattle.judge.proofs.verdict.Reads as verdict
 use Rattle.judge.proofs.judge.Reads as judge
-
-pub sound-settled : Settled sound.Post
-sound-settled κs a x y e f p q = p ∙ sym q
 
 pub legal-settled : Settled legal.Post
 legal-settled κs a x y e f p q = p ∙ sym q

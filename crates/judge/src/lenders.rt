@@ -1,15 +1,16 @@
 // The cells of a row. Descriptions that are passed on are named by the contracts alone: no function here reads one, and so they cost nothing.
-use super::areas::Area;
-use super::areas::at;
-use super::keys::find;
-use super::words::has;
+use keys::areas::Area;
+use keys::areas::at;
+use keys::find;
+use keys::words::has;
 use model::Description;
 ghost use mathlib.Core.Path.{_≡_};
 ghost use Prim.Native.Nat.{suc, _<_, _≤_};
 ghost use Rattle.bounded.specs.Bounded.{allBelow};
 ghost use Rattle.model.specs.Tables.{cell, nocell, same, at as rowAt, lends, emptyRow};
 ghost use Rattle.model.specs.Judge.{cellRight};
-ghost use Rattle.judge.specs.Facts.{tablesOf, Ready, Asked, lenderOf, Known, InRow, Spot, Fitting, Ranges, Between};
+ghost use Rattle.keys.specs.Facts.{Ranges};
+ghost use Rattle.judge.specs.Facts.{tablesOf, Ready, Asked, lenderOf, Known, InRow, Spot, Fitting, Between};
 
 // Where the row of entity (`key`, `kc`) at a level starts, or 65535.
 fn lender(

@@ -1,12 +1,10 @@
 // The judge of tables: whether a description is sound, whether two buffers are as long as it says, and whether they hold legal tables.
-mod areas;
-mod describe;
-mod keys;
 mod lenders;
 mod references;
 mod rows;
-mod words;
 
+use keys::areas;
+use keys::words;
 use model::Description;
 use model::Verdict;
 ghost use mathlib.Core.Path.{_≡_};
@@ -16,16 +14,6 @@ ghost use Rattle.level.specs.Order.{orderOf};
 ghost use Rattle.model.specs.Description as descriptions;
 ghost use Rattle.model.specs.Buffers.{stateOf};
 ghost use Rattle.model.specs.Judge as judges;
-
-// The description is sound.
-pub fn sound(description: Description) -> bool
-    ensures { λ r. ⌜ r ≡ descriptions.sound description ⌝ }
-{
-    let levels = areas::wide(description.levels);
-    let labels = description.labels;
-    let order = level::order(labels, levels);
-    describe::ordered(description, order)
-}
 
 // The tables are legal. The order and the ranges are laid out as words and the keys side by side; that no key stands twice at a level is tested
 // first, then each row and cell once.
@@ -73,7 +61,7 @@ pub fn verdict(
     if !describe::ordered(description, order) {
         return Verdict::Description;
     }
-    let total = areas::total(description);
+    let total = describe::total(description);
     if values.len() != total {
         return Verdict::Length;
     }
@@ -90,7 +78,7 @@ pub fn verdict(
 pub fn judge(description: Description, values: &[u32], classes: &[u8]) -> Verdict
     ensures { λ r. ⌜ r ≡ judges.judge description (record { values = now (values .entry); classes = now (classes .entry) }) ⌝ }
 {
-    let levels = areas::wide(description.levels);
+    let levels = describe::wide(description.levels);
     let labels = description.labels;
     let order = level::order(labels, levels);
     verdict(description, order, values, classes)

@@ -1,7 +1,7 @@
 // The references of rows.
-use super::areas::Area;
-use super::areas::at;
-use super::keys::find;
+use keys::areas::Area;
+use keys::areas::at;
+use keys::find;
 use model::Description;
 ghost use mathlib.Core.Path.{_≡_};
 ghost use Prim.Native.Nat.{_≤_};

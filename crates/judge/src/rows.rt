@@ -1,17 +1,18 @@
 // The rows of every relation and level.
-use super::areas::Area;
-use super::areas::at;
-use super::areas::laid;
-use super::areas::wide;
 use super::lenders::cells;
 use super::lenders::empty;
 use super::references::reference;
+use describe::wide;
+use keys::areas::Area;
+use keys::areas::at;
+use keys::areas::laid;
 use model::Description;
 ghost use mathlib.Core.Path.{_≡_};
 ghost use Prim.Native.Nat.{suc, _<_};
 ghost use Rattle.bounded.specs.Bounded.{allBelow};
 ghost use Rattle.model.specs.Judge.{rowRight};
-ghost use Rattle.judge.specs.Facts.{tablesOf, rightRow, Ready, InRow, Ranges, Orders, Refers, Laid, relationRight, tablesRight};
+ghost use Rattle.keys.specs.Facts.{Ranges, Orders};
+ghost use Rattle.judge.specs.Facts.{tablesOf, rightRow, Ready, InRow, Refers, Laid, relationRight, tablesRight};
 
 // A row with a key.
 fn keyed(

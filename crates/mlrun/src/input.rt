@@ -1,5 +1,8 @@
 // Standard input, a buffer at a time: the record at the front is there whole, if the input has it.
 use records::bytes::pair;
+ghost use mathlib.Core.Path.{_≡_};
+ghost use Prim.Native.Nat.{_+_, _-_, _≤_};
+ghost use lib.ListN.{length};
 
 // Where in the buffer the bytes stand that were read and not used yet.
 pub struct Window {
@@ -8,11 +11,13 @@ pub struct Window {
 }
 
 // How many bytes are needed to judge the record at the front: those that its header says; its header alone where that is cut or says too many.
-fn wanted(input: &[u8], window: Window) -> usize {
-    if window.to - window.from < 4 {
+fn wanted(input: &[u8], from: usize, there: usize) -> usize
+    ensures { λ r. ⌜ r ≤ 1028 ⌝ }
+{
+    if there < 4 {
         return 4;
     }
-    let body = pair(input, window.from) as usize;
+    let body = pair(input, from) as usize;
     if 1024 < body {
         return 4;
     }
@@ -20,45 +25,67 @@ fn wanted(input: &[u8], window: Window) -> usize {
 }
 
 // How many bytes of the record at the front are there.
-pub fn size(input: &[u8], window: Window) -> usize {
+pub fn size(input: &[u8], window: Window) -> usize
+    requires { ⌜ window .from ≤ window .to ⌝ }
+    ensures { λ r. ⌜ window .from + r ≤ window .to ⌝ }
+{
     let there = window.to - window.from;
-    let wanted = wanted(input, window);
-    if there < wanted { there } else { wanted }
+    let wanted = wanted(input, window.from, there);
+    if there < wanted {
+        return there;
+    }
+    wanted
 }
 
-// Moves the bytes to the front of the buffer.
-fn shift(input: &mut [u8], window: Window) -> Window {
-    let there = window.to - window.from;
+// Moves bytes to the front of the buffer.
+fn shift(input: &mut [u8], from: usize, there: usize)
+    requires { ⌜ from + there ≤ length (now input) ⌝ }
+    ensures { λ _. ⌜ length (now (input .exit)) ≡ length (now (input .entry)) ⌝ }
+{
     let mut i = 0;
     while i < there {
-        input[i] = input[window.from + i];
+        input[i] = input[from + i];
         i += 1;
     }
-    Window { from: 0, to: there }
 }
 
-// Reads on until the record at the front is there or the input ends; nothing is there after a read that failed.
-fn load(input: &mut [u8], window: Window) -> Window {
-    let mut to = window.to;
-    while to < wanted(input, Window { from: 0, to }) {
-        let got = libc::read(0, &mut input[to..]);
-        if got < 0 {
-            return Window { from: 0, to: 0 };
-        }
-        let more = io::count(got, &input[to..]);
+// One read into the buffer from a place on.
+fn more(input: &mut [u8], to: usize) -> usize
+    requires { ⌜ to ≤ length (now input) ⌝ }
+    ensures { λ r. ⌜ to + r ≤ length (now (input .entry)) ⌝ }
+{
+    let part = &mut input[to..];
+    let got = libc::read(0, part);
+    io::count(got, part)
+}
+
+// Reads on until the record at the front is there or the input ends; answers how many bytes are there.
+fn load(input: &mut [u8], there: usize) -> usize
+    requires { ⌜ (there ≤ length (now input)) × (1028 ≤ length (now input)) ⌝ }
+    ensures { λ r. ⌜ r ≤ length (now (input .entry)) ⌝ }
+{
+    let mut to = there;
+    while to < wanted(input, 0, to) {
+        let more = more(input, to);
         if more == 0 {
-            break;
+            return to;
         }
         to += more;
     }
-    Window { from: 0, to }
+    to
 }
 
 // The record at the front is there whole, if the input has it.
-pub fn fill(input: &mut [u8], window: Window) -> Window {
-    if wanted(input, window) <= window.to - window.from {
+pub fn fill(input: &mut [u8], window: Window) -> Window
+    requires { ⌜ (window .from ≤ window .to) × (window .to ≤ length (now input)) × (1028 ≤ length (now input)) ⌝ }
+    ensures { λ r. ⌜ (r .from ≤ r .to) × (r .to ≤ length (now (input .entry))) ⌝ }
+{
+    let from = window.from;
+    let there = window.to - from;
+    if wanted(input, from, there) <= there {
         return window;
     }
-    let moved = shift(input, window);
-    load(input, moved)
+    shift(input, from, there);
+    let to = load(input, there);
+    Window { from: 0, to }
 }

@@ -6,19 +6,28 @@ use input::Window;
 use model::Description;
 use records::describe::nothing;
 use stream::step;
+ghost use mathlib.Core.Path.{_≡_};
+ghost use Prim.Native.Nat.{_≤_};
+ghost use lib.ListN.{length};
+ghost use Rattle.mlrun.specs.Within.{Within};
 
 // The room that a step is given for what it prints. No answer takes as much: 1,024 rows of at most 117 bytes, and one line.
 const ROOM: usize = 131072;
 
-// The lesser of two.
-fn least(a: usize, b: usize) -> usize
-    ensures { λ r. ⌜ (r ≤ a) × (r ≤ b) ⌝ }
-{
-    if a < b { a } else { b }
+// Where the run stands: what is there of the input, what waits to be written, and what is kept from record to record.
+struct State {
+    from: usize,
+    to: usize,
+    waiting: usize,
+    goes: bool,
+    last: u16,
+    description: Description,
 }
 
 // Writes what is waiting where there might not be room for one more answer; answers how much is waiting then.
 fn drain(output: &[u8], waiting: usize) -> usize
+    requires { ⌜ waiting ≤ length (now output) ⌝ }
+    ensures { λ r. ⌜ r ≤ 131072 ⌝ }
 {
     if waiting <= ROOM {
         return waiting;
@@ -27,37 +36,115 @@ fn drain(output: &[u8], waiting: usize) -> usize
     0
 }
 
-fn run(input: &mut [u8], values: &mut [u32], classes: &mut [u8], output: &mut [u8]) {
-    let mut description = nothing();
-    let mut last = 0u16;
+// The lesser of two.
+fn least(a: usize, b: usize) -> usize
+    ensures { λ r. ⌜ (r ≤ a) × (r ≤ b) ⌝ }
+{
+    if a < b { a } else { b }
+}
+
+// The record takes its step; what it prints waits behind what is waiting.
+fn take(
+    bytes: &[u8],
+    values: &mut [u32],
+    classes: &mut [u8],
+    output: &mut [u8],
+    state: State,
+    number: u64,
+) -> State
+    requires { ⌜ state .waiting ≤ length (now output) ⌝ }
+    ensures { λ r. ⌜ (r .from ≡ state .from) × (r .to ≡ state .to) × (r .waiting ≤ length (now (output .entry))) ⌝ }
+{
+    let waiting = state.waiting;
+    let description = state.description;
+    let stepped = step(
+        bytes,
+        values,
+        classes,
+        &mut output[waiting..],
+        description,
+        state.last,
+        number,
+    );
+    let printed = least(stepped.printed, output.len() - waiting);
+    let description = stepped.description;
+    State {
+        from: state.from,
+        to: state.to,
+        waiting: waiting + printed,
+        goes: stepped.goes,
+        last: stepped.last,
+        description,
+    }
+}
+
+// The next record, if the input has one more.
+fn next(
+    input: &mut [u8],
+    values: &mut [u32],
+    classes: &mut [u8],
+    output: &mut [u8],
+    state: State,
+    number: u64,
+) -> State
+    requires { ⌜ Within state (length (now input)) (length (now output)) ⌝ }
+    ensures { λ r. ⌜ Within r (length (now (input .entry))) (length (now (output .entry))) ⌝ }
+{
+    let window = input::fill(
+        input,
+        Window {
+            from: state.from,
+            to: state.to,
+        },
+    );
+    let size = input::size(input, window);
+    let from = window.from;
+    let to = window.to;
+    let waiting = drain(output, state.waiting);
+    let description = state.description;
+    let ready = State {
+        from: from + size,
+        to,
+        waiting,
+        goes: size != 0,
+        last: state.last,
+        description,
+    };
+    if size == 0 {
+        return ready;
+    }
+    take(
+        &input[from..from + size],
+        values,
+        classes,
+        output,
+        ready,
+        number,
+    )
+}
+
+// Record after record, until one is refused or the input ends. The buffers are longer than a record, and than what a step prints.
+fn run(input: &mut [u8], values: &mut [u32], classes: &mut [u8], output: &mut [u8])
+    requires { ⌜ (1028 ≤ length (now input)) × (131072 ≤ length (now output)) ⌝ }
+{
+    let description = nothing();
+    let mut state = State {
+        from: 0,
+        to: 0,
+        waiting: 0,
+        goes: true,
+        last: 0,
+        description,
+    };
     let mut number = 1u64;
-    let mut window = Window { from: 0, to: 0 };
-    let mut waiting = 0;
-    let mut goes = true;
-    while goes && number < u64::MAX {
-        window = input::fill(input, window);
-        let size = input::size(input, window);
-        if size == 0 {
+    while number < u64::MAX {
+        if !state.goes {
             break;
         }
-        waiting = drain(output, waiting);
-        let from = window.from;
-        let stepped = step(
-            &input[from..from + size],
-            values,
-            classes,
-            &mut output[waiting..],
-            description,
-            last,
-            number,
-        );
-        goes = stepped.goes;
-        last = stepped.last;
-        description = stepped.description;
-        waiting += least(stepped.printed, output.len() - waiting);
-        window = Window { from: from + size, to: window.to };
+        state = next(input, values, classes, output, state, number);
         number += 1;
     }
+    let waiting = state.waiting;
     io::write_all(1, &output[..waiting]);
 }
 

@@ -1,5 +1,4 @@
 // Whether a statement and its lists are well formed: what is answered 4 where they are not.
-use asked::conditions;
 use model::Description;
 use model::Statement;
 use model::What;

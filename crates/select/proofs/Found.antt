@@ -21,7 +21,7 @@ use Rattle.model.specs.Tables.{Row, State, seen}
 use Rattle.model.specs.Listed.{among, eachLevel}
 use Rattle.model.specs.Select.{Shown, asked, foundAt, found}
 use Rattle.theory.proofs.Seen.{seen-level}
-use Rattle.asked.specs.Facts.{metAt, Marked, Counted}
+use Rattle.conditions.specs.Facts.{metAt, Marked, Counted}
 use Rattle.select.specs.declared.At.{At}
 use Rattle.select.specs.declared.Levels.{Levels}
 use Rattle.select.specs.Facts.{wanted, levelAt, levelsAt, shownLevels, Holds, levelFound, foundIn, rowShown, Room, Wrote}

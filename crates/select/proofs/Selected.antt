@@ -27,7 +27,8 @@ use Rattle.cells.specs.declared.layout.Part.{Part}
 use Rattle.cells.specs.Layout.{Laid, Lent}
 use Rattle.cells.specs.Changed.{holding}
 use Rattle.cells.proofs.Counts.{sound-says}
-use Rattle.asked.specs.Facts.{Ordered, Asking}
+use Rattle.asked.specs.Facts.{Ordered}
+use Rattle.conditions.specs.Facts.{Asking}
 use Rattle.select.specs.declared.Levels.{Levels}
 use Rattle.change.specs.Facts.{Standing, sight, Selects, refuses, shows}
 use Rattle.select.specs.Facts.{shownLevels, Holds, InLevels, foundIn, start, Room, Stands, fits, Filled, short, full}

@@ -1,6 +1,4 @@
 // SELECT.
-use asked::conditions::count;
-use asked::conditions::marks;
 use asked::levels::exist;
 use asked::levels::lists;
 use asked::levels::once;
@@ -8,6 +6,8 @@ use asked::levels::seen;
 use cells::layout::Part;
 use cells::read::class_at;
 use cells::read::value_at;
+use conditions::count;
+use conditions::marks;
 use level::Label;
 use model::Answer;
 use model::Description;
@@ -24,7 +24,7 @@ ghost use Rattle.model.specs.Select.{selectFormed, foundAt, asked as askedOf};
 ghost use Rattle.model.specs.Conditions.{conditionsFormed};
 ghost use Rattle.cells.specs.Layout.{Sized, Lent, InLevel, InRow};
 ghost use Rattle.cells.specs.Changed.{holding};
-ghost use Rattle.asked.specs.Facts.{Asking};
+ghost use Rattle.conditions.specs.Facts.{Asking};
 ghost use Rattle.change.specs.Facts.{Standing, Selects};
 ghost use Rattle.select.specs.Facts.{Holds, InLevels, Room, Wrote, Stands, Filled, held, start, levelsAt, shownLevels, foundIn, valuesOf, ownersOf, rowShown, wanted as wantedOf};
 

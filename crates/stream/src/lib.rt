@@ -31,7 +31,12 @@ fn refuse(text: &mut [u8], description: Description, last: u16, number: u64) -> 
     ensures { λ r. ⌜ ((values classes : List ℕ) → Took (refuses (holds last description values classes) number) (now (text .entry)) values classes (now (text .exit)) r) ⌝ }
 {
     let printed = lines::refusal(text, number);
-    Stepped { goes: false, printed, last, description }
+    Stepped {
+        goes: false,
+        printed,
+        last,
+        description,
+    }
 }
 
 // A record of kind 1.
@@ -48,7 +53,12 @@ fn labels(
         return refuse(text, description, last, number);
     }
     let description = describe::labels(bytes, description);
-    Stepped { goes: true, printed: 0, last: 1, description }
+    Stepped {
+        goes: true,
+        printed: 0,
+        last: 1,
+        description,
+    }
 }
 
 // A record of kind 2.
@@ -65,7 +75,12 @@ fn relation(
         return refuse(text, description, last, number);
     }
     let description = describe::relation(bytes, description);
-    Stepped { goes: true, printed: 0, last: 2, description }
+    Stepped {
+        goes: true,
+        printed: 0,
+        last: 2,
+        description,
+    }
 }
 
 // How many cells the tables take; a description that breaks a rule has none.
@@ -97,10 +112,20 @@ fn row(
     if classes.len() < extent {
         return refuse(text, description, last, number);
     }
-    if !place(bytes, &mut values[..extent], &mut classes[..extent], description) {
+    if !place(
+        bytes,
+        &mut values[..extent],
+        &mut classes[..extent],
+        description,
+    ) {
         return refuse(text, description, last, number);
     }
-    Stepped { goes: true, printed: 0, last: 3, description }
+    Stepped {
+        goes: true,
+        printed: 0,
+        last: 3,
+        description,
+    }
 }
 
 // The lesser of two.
@@ -159,7 +184,12 @@ fn answer(
     let relation = statement.relation;
     let columns = columns(description, relation);
     let printed = lines::answer(shown, owners, text, what, answer, columns);
-    Stepped { goes: true, printed, last: kind, description }
+    Stepped {
+        goes: true,
+        printed,
+        last: kind,
+        description,
+    }
 }
 
 // The record is read to a statement, which is run, or to its place of refusal.
@@ -180,7 +210,12 @@ fn carry(
     requires { ⌜ (now shown ≡ replicate 8192 0) × (now owners ≡ replicate 9216 0) ⌝ }
     ensures { λ r. ⌜ Took (statementTurn (holds last description (now (values .entry)) (now (classes .entry))) kind number (now (bytes .entry))) (now (text .entry)) (now (values .exit)) (now (classes .exit)) (now (text .exit)) r ⌝ }
 {
-    let Read::Statement { statement, listed, tested } = statement(bytes, list, conditions, number) else {
+    let Read::Statement {
+        statement,
+        listed,
+        tested,
+    } = statement(bytes, list, conditions, number)
+    else {
         return refuse(text, description, last, number);
     };
     answer(
@@ -255,5 +290,14 @@ pub fn step(
     if kind == 3 {
         return row(bytes, values, classes, text, description, last, number);
     }
-    call(bytes, values, classes, text, description, last, kind, number)
+    call(
+        bytes,
+        values,
+        classes,
+        text,
+        description,
+        last,
+        kind,
+        number,
+    )
 }

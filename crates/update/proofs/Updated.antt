@@ -33,7 +33,8 @@ use Rattle.model.proofs.Sound.{between-r, column-r}
 use Rattle.cells.specs.declared.layout.Part.{Part}
 use Rattle.cells.specs.Changed.{holding, changeLevel}
 use Rattle.asked.specs.declared.pairs.Rule.the-variants as Rules
-use Rattle.asked.specs.Facts.{Marked, Counted, metAt, ruleOf}
+use Rattle.asked.specs.Facts.{ruleOf}
+use Rattle.conditions.specs.Facts.{Marked, Counted, metAt}
 use Rattle.above.specs.declared.Plan.{Plan}
 use Rattle.above.specs.Facts.{changeOf, aboveOf, carried, withRows, Planned}
 use Rattle.above.proofs.Carried.{carried-own}

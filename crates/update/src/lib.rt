@@ -1,8 +1,6 @@
 // UPDATE.
 use above::Plan;
 use above::above;
-use asked::conditions::count;
-use asked::conditions::marks;
 use asked::pairs::Rule;
 use asked::pairs::each;
 use asked::pairs::find;
@@ -10,6 +8,8 @@ use asked::pairs::once;
 use cells::layout::Part;
 use cells::write::put;
 use change::named::listed;
+use conditions::count;
+use conditions::marks;
 use model::Answer;
 use model::Description;
 use model::Fault;

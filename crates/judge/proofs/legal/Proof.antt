@@ -2,9 +2,9 @@ use Prim.Native.Nat.{ℕ}
 use mathlib.Core.Path.{sym, _∙_}
 use lib.ListN.{length-replicate}
 use borrow.Author.Tests.{not-true, not-false}
-use Rattle.judge.proofs.Sets.{orders-of}
-use Rattle.judge.proofs.Descriptions.{sane-of}
-use Rattle.judge.proofs.Notes.{keyed-kept, distinct-kept}
+use Rattle.keys.proofs.Sets.{orders-of}
+use Rattle.describe.proofs.Descriptions.{sane-of}
+use Rattle.keys.proofs.Notes.{keyed-kept, distinct-kept}
 use Rattle.judge.proofs.Passes.{laid-of, tables-twice, tables-legal}
 use borrow.Author.Needs.{needs}
 use Rattle.judge.proofs.legal.Statement.{statement}

@@ -1,6 +1,6 @@
 use mathlib.Core.Path.{sym, _∙_}
 use borrow.Author.Tests.{not-true, not-false}
-use Rattle.judge.proofs.Descriptions.{sane-of}
+use Rattle.describe.proofs.Descriptions.{sane-of}
 use Rattle.judge.proofs.Passes.{judge-unsound, judge-values, judge-classes, judge-illegal, judge-legal}
 use borrow.Author.Needs.{needs}
 use Rattle.judge.proofs.verdict.Statement.{statement}

@@ -1,7 +1,7 @@
 use native.Mathlib.Omega.{arith}
 use Rattle.bounded.proofs.Reflection.{of-true}
 use Rattle.model.proofs.Sound.{column-r}
-use Rattle.asked.proofs.Meeting.{row-inside}
+use Rattle.cells.proofs.Cells.{row-inside}
 use Rattle.uplevel.proofs.Entities.{lent-missing, lent-other, lent-own}
 use borrow.Author.Needs.{needs}
 use Rattle.uplevel.proofs.lent.Statement.{statement}
