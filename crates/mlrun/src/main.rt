@@ -4,7 +4,7 @@ mod input;
 
 use input::Window;
 use model::Description;
-use records::describe::nothing;
+use records::descriptions::nothing;
 use stream::step;
 ghost use mathlib.Core.Path.{_≡_};
 ghost use Prim.Native.Nat.{_≤_};

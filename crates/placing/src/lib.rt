@@ -28,7 +28,7 @@ pub fn total(description: Description) -> usize
 fn fits(values: &[u32], classes: &[u8], description: Description) -> bool
     ensures { λ r. ⌜ r ≡ (sound description && fitting description (holding (now (values .entry)) (now (classes .entry)))) ⌝ }
 {
-    if !judge::sound(description) {
+    if !describe::sound(description) {
         return false;
     }
     let total = total(description);

@@ -10,11 +10,11 @@ use Rattle.records.specs.declared.Read.{Read}
 use Rattle.records.specs.Facts.{Reading}
 use Rattle.records.proofs.bytes.pair.Reads as pair
 use Rattle.records.proofs.bytes.quad.Reads as quad
-use Rattle.records.proofs.describe.nothing.Reads as nothing
-use Rattle.records.proofs.describe.is_labels.Reads as is-labels
-use Rattle.records.proofs.describe.labels.Reads as labels
-use Rattle.records.proofs.describe.is_relation.Reads as is-relation
-use Rattle.records.proofs.describe.relation.Reads as relation
+use Rattle.records.proofs.descriptions.nothing.Reads as nothing
+use Rattle.records.proofs.descriptions.is_labels.Reads as is-labels
+use Rattle.records.proofs.descriptions.labels.Reads as labels
+use Rattle.records.proofs.descriptions.is_relation.Reads as is-relation
+use Rattle.records.proofs.descriptions.relation.Reads as relation
 use Rattle.records.proofs.statement.statement.Reads as statement
 use Rattle.records.proofs.whole.kind.Reads as kind
 

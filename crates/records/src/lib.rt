@@ -1,6 +1,6 @@
 // mlrun's records, read one at a time.
 pub mod bytes;
-pub mod describe;
+pub mod descriptions;
 pub mod statement;
 pub mod whole;
 

@@ -3,7 +3,7 @@ use model::Description;
 use model::Statement;
 use placing::place;
 use records::Read;
-use records::describe;
+use records::descriptions;
 use records::statement::statement;
 ghost use mathlib.Core.Path.{_≡_};
 ghost use mathlib.Core.List.{List};
@@ -49,10 +49,10 @@ fn labels(
 ) -> Stepped
     ensures { λ r. ⌜ ((values classes : List ℕ) → Took (labelsTurn (holds last description values classes) number (now (bytes .entry))) (now (text .entry)) values classes (now (text .exit)) r) ⌝ }
 {
-    if !describe::is_labels(bytes) {
+    if !descriptions::is_labels(bytes) {
         return refuse(text, description, last, number);
     }
-    let description = describe::labels(bytes, description);
+    let description = descriptions::labels(bytes, description);
     Stepped {
         goes: true,
         printed: 0,
@@ -71,10 +71,10 @@ fn relation(
 ) -> Stepped
     ensures { λ r. ⌜ ((values classes : List ℕ) → Took (relationTurn (holds last description values classes) number (now (bytes .entry))) (now (text .entry)) values classes (now (text .exit)) r) ⌝ }
 {
-    if !describe::is_relation(bytes) {
+    if !descriptions::is_relation(bytes) {
         return refuse(text, description, last, number);
     }
-    let description = describe::relation(bytes, description);
+    let description = descriptions::relation(bytes, description);
     Stepped {
         goes: true,
         printed: 0,
@@ -87,7 +87,7 @@ fn relation(
 fn extent(description: Description) -> usize
     ensures { λ r. ⌜ (r ≡ cellsOf description) × (r ≤ 8192) ⌝ }
 {
-    if !judge::sound(description) {
+    if !describe::sound(description) {
         return 0;
     }
     placing::total(description)

@@ -12,7 +12,7 @@ use Rattle.mlrun.proofs.run.Reads as reads
 use Rattle.mlrun.proofs.run.Lts as lts
 use Rattle.io.proofs.write_all.Reads as write-all-reads
 use Rattle.mlrun.proofs.next.Reads as next-reads
-use Rattle.records.proofs.describe.nothing.Reads as nothing-reads
+use Rattle.records.proofs.descriptions.nothing.Reads as nothing-reads
 
 -- within buffers of the same lengths
 moved : {s : State} {a b a′ b′ : ℕ} → Within s a b → a ≡ a′ → b ≡ b′ → Within s a′ b′

@@ -1,8 +1,8 @@
 use borrow.Author.Needs.{needs}
 use borrow.Author.Tests.{lt-ltb, le-ltb}
 use Rattle.records.specs.Descriptions.{labelAt}
-use Rattle.records.proofs.describe.label.Statement.{statement}
-use Rattle.records.proofs.describe.label.Tie as tie
+use Rattle.records.proofs.descriptions.label.Statement.{statement}
+use Rattle.records.proofs.descriptions.label.Tie as tie
 
 label-count-requires : tie.Need-label-count-requires
 label-count-requires c κs = search needs

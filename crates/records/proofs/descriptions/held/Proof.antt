@@ -1,7 +1,7 @@
 use borrow.Author.Needs.{needs}
 use native.Mathlib.Omega.{arith}
-use Rattle.records.proofs.describe.held.Statement.{statement}
-use Rattle.records.proofs.describe.held.Tie as tie
+use Rattle.records.proofs.descriptions.held.Statement.{statement}
+use Rattle.records.proofs.descriptions.held.Tie as tie
 
 count-requires : tie.Need-count-requires
 count-requires c κs = search needs

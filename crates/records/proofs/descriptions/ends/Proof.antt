@@ -8,8 +8,8 @@ use Rattle.bounded.specs.Lists.{listBelow, writeAt}
 use Rattle.bounded.proofs.Lists.{numbers-start, numbers-more, numbers-end}
 use Rattle.records.specs.Bytes.{pair}
 use Rattle.records.specs.Descriptions.{ends}
-use Rattle.records.proofs.describe.ends.Statement.{statement}
-use Rattle.records.proofs.describe.ends.Tie as tie
+use Rattle.records.proofs.descriptions.ends.Statement.{statement}
+use Rattle.records.proofs.descriptions.ends.Tie as tie
 
 abbrev Inv-loop : tie.InvT-loop
 Inv-loop bytes at relation columns next₀ k₀ next k =

@@ -1,7 +1,7 @@
 use borrow.Author.Needs.{needs}
 use Rattle.records.specs.Descriptions.{labelled}
-use Rattle.records.proofs.describe.labels.Statement.{statement}
-use Rattle.records.proofs.describe.labels.Tie as tie
+use Rattle.records.proofs.descriptions.labels.Statement.{statement}
+use Rattle.records.proofs.descriptions.labels.Tie as tie
 
 label-count-requires : tie.Need-label-count-requires
 label-count-requires c κs = search needs

@@ -1,7 +1,7 @@
 use borrow.Author.Needs.{needs}
 use Rattle.records.specs.Descriptions.{isRelated}
-use Rattle.records.proofs.describe.is_relation.Statement.{statement}
-use Rattle.records.proofs.describe.is_relation.Tie as tie
+use Rattle.records.proofs.descriptions.is_relation.Statement.{statement}
+use Rattle.records.proofs.descriptions.is_relation.Tie as tie
 
 count-requires : tie.Need-count-requires
 count-requires c κs = search needs

@@ -3,8 +3,8 @@ use mathlib.Core.Path.{_∙_}
 use native.Mathlib.Numerals.{add-one}
 use borrow.Author.Tests.{lt-ltb, le-ltb}
 use Rattle.records.specs.Descriptions.{related, overfull}
-use Rattle.records.proofs.describe.relation.Statement.{statement}
-use Rattle.records.proofs.describe.relation.Tie as tie
+use Rattle.records.proofs.descriptions.relation.Statement.{statement}
+use Rattle.records.proofs.descriptions.relation.Tie as tie
 
 cast-relation : tie.Need-cast-relation
 cast-relation c = search needs

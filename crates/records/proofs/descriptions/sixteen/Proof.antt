@@ -8,8 +8,8 @@ use Rattle.bounded.specs.Lists.{listBelow, writeAt}
 use Rattle.bounded.proofs.Lists.{numbers-start, numbers-end, list-length}
 use Rattle.records.specs.Descriptions.{labelAt, labelsOf}
 use Rattle.records.proofs.Written.{write-whole, numbers-first}
-use Rattle.records.proofs.describe.sixteen.Statement.{statement}
-use Rattle.records.proofs.describe.sixteen.Tie as tie
+use Rattle.records.proofs.descriptions.sixteen.Statement.{statement}
+use Rattle.records.proofs.descriptions.sixteen.Tie as tie
 
 abbrev Inv-loop : tie.InvT-loop
 Inv-loop bytes labels₀ level₀ labels level =

@@ -1,7 +1,7 @@
 use borrow.Author.Needs.{needs}
 use Rattle.records.specs.Descriptions.{withRelation}
-use Rattle.records.proofs.describe.with_relation.Statement.{statement}
-use Rattle.records.proofs.describe.with_relation.Tie as tie
+use Rattle.records.proofs.descriptions.with_relation.Statement.{statement}
+use Rattle.records.proofs.descriptions.with_relation.Tie as tie
 
 ends-requires : tie.Need-ends-requires
 ends-requires c κs = search needs

@@ -1,8 +1,8 @@
 use borrow.Author.Needs.{needs}
 use native.Mathlib.Omega.{arith}
 use Rattle.records.specs.Descriptions.{labelCount}
-use Rattle.records.proofs.describe.label_count.Statement.{statement}
-use Rattle.records.proofs.describe.label_count.Tie as tie
+use Rattle.records.proofs.descriptions.label_count.Statement.{statement}
+use Rattle.records.proofs.descriptions.label_count.Tie as tie
 
 returns : tie.Need-returns
 unfolding labelCount
