@@ -5,43 +5,18 @@ use mathlib.Core.Path.{_≡_, sym, ap}
 use mathlib.Core.Bool.{Bool, true, false, _&&_}
 use mathlib.Core.List.{List}
 use mathlib.Core.Logic.{_≢_}
-use native.Mathlib.Nat.{le-refl}
 use native.Mathlib.Numerals.{add-one}
 use lib.Dec.{eqb, ltb, leb}
 use lib.ListN.{length}
 use borrow.Author.Tests.{eq-eqb, ne-eqb, le-leb, lt-leb, leb-true}
-use Rattle.bounded.specs.Bounded.{sumBelow}
 use Rattle.bounded.proofs.All.{all-start, all-more, all-fails, all-end, all-at}
 use Rattle.bounded.proofs.Reflection.{is-true, is-false}
 use Rattle.model.specs.declared.Description.{Description}
-use Rattle.model.specs.Description.{sound, isRelation, isLevel, sizeOf, startOf, totalOf}
+use Rattle.model.specs.Description.{sound, isRelation, isLevel, totalOf}
 use Rattle.model.specs.Buffers.{Buffers, fitting}
 use Rattle.model.proofs.Sound.{relation-r}
-use Rattle.cells.specs.declared.layout.Part.{Part}
-use Rattle.cells.specs.Layout.{Laid}
-use Rattle.cells.proofs.Counts.{sound-says, rows-small, size-small}
 use Rattle.records.specs.Bytes.{pair, quad}
 use Rattle.placing.specs.Placing.{rowOf, smallClasses}
-
--- ---- how many cells there are
-
-module _ (d : Description) (s : sound d ≡ true) where
-  pub last-relation : isRelation d (d .relations) ≡ true
-  last-relation = is-true (relation-r d (d .relations)) (sound-says d s .some-relations, le-refl (d .relations))
-
-  module _ {p : Part} (L : Laid d (d .relations) p) where
-    pub rows-fit : d .levels * p .rows ≤ 1024
-    rows-fit = rw (L .rows) (rows-small d s (d .relations) last-relation)
-
-    pub cells-fit : d .levels * p .rows * p .columns ≤ 8192
-    cells-fit = rw (L .rows, L .columns) (size-small d s (d .relations) last-relation)
-
-    pub total-is : p .start + d .levels * p .rows * p .columns ≡ totalOf d
-    unfolding totalOf startOf sumBelow sizeOf
-    total-is = rw (L .start, L .rows, L .columns)
-
-    pub total-few : p .start + d .levels * p .rows * p .columns ≤ 8192
-    total-few = rw total-is (L .total)
 
 -- ---- the description and the buffers
 

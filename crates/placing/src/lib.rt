@@ -8,21 +8,11 @@ use records::bytes::quad;
 ghost use mathlib.Core.Path.{_≡_};
 ghost use mathlib.Core.Bool.{true, _&&_};
 ghost use Prim.Native.Nat.{_≤_};
-ghost use Rattle.model.specs.Description.{sound, isLevel, isRelation, totalOf};
+ghost use Rattle.model.specs.Description.{sound, isLevel, isRelation};
 ghost use Rattle.model.specs.Buffers.{fitting};
 ghost use Rattle.cells.specs.Changed.{holding};
 ghost use Rattle.change.specs.Facts.{Filled};
 ghost use Rattle.placing.specs.Placing.{Places, rowOf, smallClasses};
-
-// How many cells there are: those before the last relation, and its own.
-pub fn total(description: Description) -> usize
-    requires { ⌜ sound description ≡ true ⌝ }
-    ensures { λ r. ⌜ r ≡ totalOf description ⌝ }
-{
-    let levels = description.levels as usize;
-    let part = lay(description, description.relations as usize);
-    part.start + levels * part.rows * part.columns
-}
 
 // The description is sound, and both buffers are as long as it says.
 fn fits(values: &[u32], classes: &[u8], description: Description) -> bool
@@ -31,7 +21,7 @@ fn fits(values: &[u32], classes: &[u8], description: Description) -> bool
     if !describe::sound(description) {
         return false;
     }
-    let total = total(description);
+    let total = describe::total(description);
     if values.len() != total {
         return false;
     }

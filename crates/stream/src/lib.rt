@@ -90,7 +90,7 @@ fn extent(description: Description) -> usize
     if !describe::sound(description) {
         return 0;
     }
-    placing::total(description)
+    describe::total(description)
 }
 
 // A record of kind 3.
