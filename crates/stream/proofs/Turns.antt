@@ -24,6 +24,7 @@ use Rattle.records.specs.Record.{kindAfter}
 use Rattle.records.specs.Statements.{statementOf, readOf, listOf, conditionsOf, listRead, conditionsRead, isStatement}
 use Rattle.records.specs.Descriptions.{isLabels, labelled, isRelated, related}
 use Rattle.records.specs.Facts.{Reading}
+use Rattle.records.proofs.Extents.{list-short, conditions-short}
 use Rattle.placing.specs.Placing.{placeable, placed, Places}
 use Rattle.lines.specs.Lines.{answerText}
 use Rattle.lines.specs.Written.{Wrote, written}
@@ -47,16 +48,16 @@ quiet last d values classes text p =
 
 -- ---- how many cells there are
 
-pub no-cells : {d : Description} → sound d ≡ false → cellsOf d ≡ 0
+pub no-cells : (d : Description) → sound d ≡ false → cellsOf d ≡ 0
 unfolding cellsOf
-no-cells s = rw s
+no-cells d s = rw s
 
-pub all-cells : {d : Description} → sound d ≡ true → cellsOf d ≡ totalOf d
+pub all-cells : (d : Description) → sound d ≡ true → cellsOf d ≡ totalOf d
 unfolding cellsOf
-all-cells s = rw s
+all-cells d s = rw s
 
-pub few-cells : {d : Description} → sound d ≡ true → totalOf d ≤ 8192
-few-cells {d} s = of-true (sound-r d) s .total
+pub few-cells : (d : Description) → sound d ≡ true → totalOf d ≤ 8192
+few-cells d s = of-true (sound-r d) s .total
 
 -- ---- records of kind 1 and 2
 
@@ -100,13 +101,13 @@ module _ (last : ℕ) (d : Description) (values classes : List ℕ) (number : �
   unfolding tables
   row-values {extent} e h =
       row-unplaced
-      (unfit d _ bytes (λ s. fit-values d _ (omega (arith, e, all-cells s, length-take (cellsOf d) values))))
+      (unfit d _ bytes (λ s. fit-values d _ (omega (arith, e, all-cells d s, length-take (cellsOf d) values))))
 
   pub row-classes : {extent : ℕ} → extent ≡ cellsOf d → length classes < extent → rowTurn (holds last d values classes) number bytes ≡ refuses (holds last d values classes) number
   unfolding tables
   row-classes {extent} e h =
       row-unplaced
-      (unfit d _ bytes (λ s. fit-classes d _ (omega (arith, e, all-cells s, length-take (cellsOf d) classes))))
+      (unfit d _ bytes (λ s. fit-classes d _ (omega (arith, e, all-cells d s, length-take (cellsOf d) classes))))
 
   module _ {extent : ℕ} {values′ classes′ : List ℕ} {done : Bool} (e : extent ≡ cellsOf d) (k : Places d bytes (holding (take extent values) (take extent classes)) (holding values′ classes′) done) where
     places : Places d bytes (tables (holds last d values classes)) (holding values′ classes′) done
@@ -138,14 +139,14 @@ module _ (d : Description) (values classes : List ℕ) (kind : ℕ) (statement :
   unfolding answered keeping
   answered-took p w = rw (← p) (record { held-is = refl; goes-is = refl; text-is = w })
 
-  pub answer-took : {q : Request} {extent a b columns : ℕ} {values′ classes′ shown′ owners′ text text′ : List ℕ} {answer : Answer} {printed : ℕ}
+  pub answer-took : (q : Request) {extent a b columns : ℕ} {values′ classes′ shown′ owners′ text text′ : List ℕ} {answer : Answer} {printed : ℕ}
       → extent ≡ cellsOf d → a ≡ min extent (length values) → b ≡ min extent (length classes)
       → outcome answer values′ classes′ shown′ owners′ ≡ run d (holding (take a values) (take b classes)) q
       → columns ≡ columnCount d (statement .relation)
       → Wrote 0 (answerText (statement .what) answer columns shown′ owners′) text text′ printed
       → Took (answered (holds 0 d values classes) kind statement (run d (tables (holds 0 d values classes)) q)) text (values′ ++ drop a values) (classes′ ++ drop b classes) text′ (stepped true printed kind d)
   unfolding tables
-  answer-took {q} {extent} {a} {b} e p s r c w =
+  answer-took q {extent} {a} {b} e p s r c w =
       let pa : a ≡ min (cellsOf d) (length values) = rw (← e) p in
       let pb : b ≡ min (cellsOf d) (length classes) = rw (← e) s in
       let ta : take a values ≡ take (cellsOf d) values = rw pa (take-least (cellsOf d) values) in
@@ -154,7 +155,7 @@ module _ (d : Description) (values classes : List ℕ) (kind : ℕ) (statement :
       let db : drop b classes ≡ drop (cellsOf d) classes = rw pb (drop-least (cellsOf d) classes) in
       rw (da, db) (answered-took (rw (ta, tb) at r) (rw c at w))
 
-module _ (last : ℕ) (d : Description) (values classes : List ℕ) (kind number : ℕ) (bytes : List ℕ) where
+module _ (number : ℕ) (bytes : List ℕ) where
   read-statement : isStatement bytes ≡ true → readOf bytes number ≡ Reads.Statement (statementOf bytes) (length (listOf bytes)) (length (conditionsOf bytes))
   unfolding readOf
   read-statement s = rw s
@@ -166,31 +167,46 @@ module _ (last : ℕ) (d : Description) (values classes : List ℕ) (kind number
   no-statement : {r : Read} (place : ℕ) → r ≡ readOf bytes number → r ≡ Reads.Refused place → isStatement bytes ≡ false
   no-statement place p q = cases (isStatement bytes) (λ s. let k = read-statement s in cc) (λ s. s)
 
-  pub statement-refused : {r : Read} (place : ℕ) → r ≡ readOf bytes number → r ≡ Reads.Refused place → statementTurn (holds last d values classes) kind number bytes ≡ refuses (holds last d values classes) number
-  unfolding statementTurn
-  statement-refused place p q = rw (read-refused (no-statement place p q))
-
   pub record Stated (statement : Statement) (listed tested : ℕ) : Type 0 where
     pub is : isStatement bytes ≡ true
     pub statement-is : statement ≡ statementOf bytes
     pub listed-is : listed ≡ length (listOf bytes)
     pub tested-is : tested ≡ length (conditionsOf bytes)
 
-  pub stated : {r : Read} {statement : Statement} {listed tested : ℕ} → r ≡ readOf bytes number → r ≡ Reads.Statement statement listed tested → Stated statement listed tested
+  stated : {r : Read} {statement : Statement} {listed tested : ℕ} → r ≡ readOf bytes number → r ≡ Reads.Statement statement listed tested → Stated statement listed tested
   stated p q =
       let s : isStatement bytes ≡ true = cases (isStatement bytes) (λ s. s) (λ s. let k = read-refused s in cc) in
       let k = read-statement s in
       record { is = s; statement-is = cc; listed-is = cc; tested-is = cc }
 
-  statement-run : isStatement bytes ≡ true → statementTurn (holds last d values classes) kind number bytes
-      ≡ answered (holds last d values classes) kind (statementOf bytes) (run d (tables (holds last d values classes)) (call (statementOf bytes) bytes))
-  unfolding statementTurn
-  statement-run s = rw (read-statement s)
+  pub few-listed : {r : Read} {statement : Statement} {listed tested : ℕ} → r ≡ readOf bytes number → r ≡ Reads.Statement statement listed tested → listed ≤ 512
+  few-listed p q = let k = stated p q in omega (arith, k .listed-is, list-short bytes (k .is))
+
+  pub few-tested : {r : Read} {statement : Statement} {listed tested : ℕ} → r ≡ readOf bytes number → r ≡ Reads.Statement statement listed tested → tested ≤ 512
+  few-tested p q = let k = stated p q in omega (arith, k .tested-is, conditions-short bytes (k .is))
+
+  list-all : isStatement bytes ≡ true → listRead bytes ≡ listOf bytes
+  unfolding listRead
+  list-all s = rw s
+
+  conditions-all : isStatement bytes ≡ true → conditionsRead bytes ≡ conditionsOf bytes
+  unfolding conditionsRead
+  conditions-all s = rw s
 
   same-call : {statement : Statement} {list conditions : List ℕ} → statement ≡ statementOf bytes → list ≡ listOf bytes → conditions ≡ conditionsOf bytes
       → call (statementOf bytes) bytes ≡ request statement list conditions (replicate 8192 0) (replicate 9216 0)
   unfolding call
   same-call p q r = rw (p, q, r)
+
+module _ (last : ℕ) (d : Description) (values classes : List ℕ) (kind number : ℕ) (bytes : List ℕ) where
+  pub statement-refused : {r : Read} (place : ℕ) → r ≡ readOf bytes number → r ≡ Reads.Refused place → statementTurn (holds last d values classes) kind number bytes ≡ refuses (holds last d values classes) number
+  unfolding statementTurn
+  statement-refused place p q = rw (read-refused number bytes (no-statement number bytes place p q), statementTurn)
+
+  statement-run : isStatement bytes ≡ true → statementTurn (holds last d values classes) kind number bytes
+      ≡ answered (holds last d values classes) kind (statementOf bytes) (run d (tables (holds last d values classes)) (call (statementOf bytes) bytes))
+  unfolding statementTurn
+  statement-run s = rw (read-statement number bytes s, statementTurn)
 
   -- what was the last kind is no part of an answer
   any-last : (statement : Statement) (q : Request) → answered (holds last d values classes) kind statement (run d (tables (holds last d values classes)) q) ≡ answered (holds 0 d values classes) kind statement (run d (tables (holds 0 d values classes)) q)
@@ -202,13 +218,12 @@ module _ (last : ℕ) (d : Description) (values classes : List ℕ) (kind number
       → r ≡ Reads.Statement statement listed tested
       → statementTurn (holds last d values classes) kind number bytes
       ≡ answered (holds 0 d values classes) kind statement (run d (tables (holds 0 d values classes)) (request statement (take listed list′) (take tested conditions′) (replicate 8192 0) (replicate 9216 0)))
-  unfolding listRead conditionsRead
   statement-taken {list} {list′} {conditions} {conditions′} {r} {statement} {listed} {tested} k q =
-      let z = stated (k .answer-is) q in
-      let a : take listed list′ ≡ listOf bytes = take-written (k .list-is) (rw (z .is)) (z .listed-is) in
-      let b : take tested conditions′ ≡ conditionsOf bytes = take-written (k .conditions-is) (rw (z .is)) (z .tested-is) in
+      let z = stated number bytes (k .answer-is) q in
+      let a : take listed list′ ≡ listOf bytes = take-written list (k .list-is) (list-all number bytes (z .is)) (z .listed-is) in
+      let b : take tested conditions′ ≡ conditionsOf bytes = take-written conditions (k .conditions-is) (conditions-all number bytes (z .is)) (z .tested-is) in
       statement-run (z .is) ∙ (any-last (statementOf bytes) (call (statementOf bytes) bytes)
-      ∙ (ap (λ c. answered (holds 0 d values classes) kind (statementOf bytes) (run d (tables (holds 0 d values classes)) c)) (same-call (z .statement-is) a b)
+      ∙ (ap (λ c. answered (holds 0 d values classes) kind (statementOf bytes) (run d (tables (holds 0 d values classes)) c)) (same-call number bytes (z .statement-is) a b)
       ∙ ap (λ s. answered (holds 0 d values classes) kind s (run d (tables (holds 0 d values classes)) (request statement (take listed list′) (take tested conditions′) (replicate 8192 0) (replicate 9216 0)))) (sym (z .statement-is))))
 
 -- ---- any record

@@ -1,8 +1,7 @@
 use borrow.Author.Needs.{needs}
 use native.Mathlib.Omega.{arith}
 use lib.ListN.{length-take}
-use Rattle.records.proofs.Extents.{list-short, conditions-short}
-use Rattle.stream.proofs.Turns.{took-as, statement-refused, stated, statement-taken}
+use Rattle.stream.proofs.Turns.{took-as, statement-refused, few-listed, few-tested, statement-taken}
 use Rattle.stream.proofs.call.Statement.{statement}
 use Rattle.stream.proofs.call.Tie as tie
 
@@ -25,16 +24,24 @@ returns : tie.Need-returns
 returns c = took-as (statement-refused _ _ _ _ _ _ _ _ (c .before .before .before .before .before .before .statement .ensures .answer-is) (c .before .before .before .before .enum-told .given .1)) (c .before .before .refuse .ensures _ _)
 
 array-share-prefix-list : tie.Need-array-share-prefix-list
-array-share-prefix-list c = ?
+array-share-prefix-list c =
+    let s = c .before .before .before .statement in
+    omega (arith, few-listed _ _ (s .ensures .answer-is) (c .before .statement2 .given .1), s .kept .1 .0)
 
 slice-aggregate-answer : tie.Need-slice-aggregate-answer
-slice-aggregate-answer c = ?
+slice-aggregate-answer c =
+    let s = c .before .before .before .before .statement in
+    simp length-take (omega (arith, few-listed _ _ (s .ensures .answer-is) (c .before .before .statement2 .given .1), s .kept .1 .0))
 
 array-share-prefix-conditions : tie.Need-array-share-prefix-conditions
-array-share-prefix-conditions c = ?
+array-share-prefix-conditions c =
+    let s = c .before .before .before .before .statement in
+    omega (arith, few-tested _ _ (s .ensures .answer-is) (c .before .before .statement2 .given .1), s .kept .1 .1 .0)
 
 slice-aggregate-answer-2 : tie.Need-slice-aggregate-answer-2
-slice-aggregate-answer-2 c = ?
+slice-aggregate-answer-2 c =
+    let s = c .before .before .before .before .before .statement in
+    simp length-take (omega (arith, few-tested _ _ (s .ensures .answer-is) (c .before .before .before .statement2 .given .1), s .kept .1 .1 .0))
 
 slice-aggregate-answer-3 : tie.Need-slice-aggregate-answer-3
 slice-aggregate-answer-3 c = search needs
@@ -55,7 +62,8 @@ same-length-4 : tie.Need-same-length-4
 same-length-4 c = search needs
 
 returns-2 : tie.Need-returns-2
-returns-2 c = ?
+returns-2 c =
+    took-as (statement-taken _ _ _ _ _ _ _ (c .before .before .before .before .before .before .before .before .before .before .before .before .before .before .before .before .before .before .before .statement .ensures) (c .before .before .before .before .before .before .before .before .before .before .before .before .before .before .before .before .before .statement2 .given .1)) (c .before .before .before .before .before .before .before .before .answer .ensures)
 
 pub call-spec : {M : Type 1} → statement M
 call-spec = tie.close (tie.spec statement-requires enum-known-statement enum-told refuse-requires same-length returns array-share-prefix-list slice-aggregate-answer array-share-prefix-conditions slice-aggregate-answer-2 slice-aggregate-answer-3 slice-aggregate-answer-4 answer-requires same-length-2 same-length-3 same-length-4 returns-2)

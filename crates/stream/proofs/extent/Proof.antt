@@ -10,7 +10,7 @@ sound-requires : tie.Need-sound-requires
 sound-requires c κs = search needs
 
 returns : tie.Need-returns
-returns c = (sym (no-cells (sym (c .before .sound .ensures) ∙ not-true _ (c .if1 .taken))), omega arith)
+returns c = (sym (no-cells _ (sym (c .before .sound .ensures) ∙ not-true _ (c .if1 .taken))), omega arith)
 
 total-requires : tie.Need-total-requires
 total-requires c κs = sym (c .before .sound .ensures) ∙ not-false _ (c .if1 .left)
@@ -18,7 +18,7 @@ total-requires c κs = sym (c .before .sound .ensures) ∙ not-false _ (c .if1 .
 returns-2 : tie.Need-returns-2
 returns-2 c =
     let s = sym (c .before .before .sound .ensures) ∙ not-false _ (c .before .if1 .left) in
-    (c .total .ensures ∙ sym (all-cells s), omega (arith, c .total .ensures, few-cells s))
+    (c .total .ensures ∙ sym (all-cells _ s), omega (arith, c .total .ensures, few-cells _ s))
 
 pub extent-spec : {M : Type 1} → statement M
 extent-spec = tie.close (tie.spec sound-requires returns total-requires returns-2)
