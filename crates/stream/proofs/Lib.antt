@@ -1,3 +1,4 @@
 pub mod Counted
 pub mod Parts
+pub mod Settled
 pub mod Turns

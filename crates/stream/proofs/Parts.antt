@@ -5,7 +5,7 @@ use mathlib.Core.Path.{_≡_, refl, sym, _∙_}
 use mathlib.Core.List.{List}
 use native.Mathlib.Omega.{arith}
 use lib.Dec.{leb}
-use lib.ListN.{length, take, drop, drop-of-length-le}
+use lib.ListN.{length, take, drop, length-append, drop-of-length-le}
 use lib.Seq.{take-all, take-append-seam}
 use borrow.Author.Tests.{leb-true, leb-false}
 use Rattle.bounded.specs.Lists.{writeAt}
@@ -31,3 +31,7 @@ module _ {A : Type 0} where
   pub take-written : {n : ℕ} {read numbers lent′ : List A} (lent : List A) → lent′ ≡ writeAt 0 read lent → read ≡ numbers → n ≡ length numbers → take n lent′ ≡ numbers
   unfolding writeAt
   take-written {n} {read} {numbers} lent p q e = rw (p, q, e) (take-append-seam numbers _)
+
+  pub room-written : {n : ℕ} {read numbers lent′ : List A} (lent : List A) → lent′ ≡ writeAt 0 read lent → read ≡ numbers → n ≡ length numbers → n ≤ length lent′
+  unfolding writeAt
+  room-written {n} {read} {numbers} lent p q e = rw (p, q, e) (simp length-append (omega arith))

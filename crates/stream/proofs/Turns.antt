@@ -24,7 +24,6 @@ use Rattle.records.specs.Record.{kindAfter}
 use Rattle.records.specs.Statements.{statementOf, readOf, listOf, conditionsOf, listRead, conditionsRead, isStatement}
 use Rattle.records.specs.Descriptions.{isLabels, labelled, isRelated, related}
 use Rattle.records.specs.Facts.{Reading}
-use Rattle.records.proofs.Extents.{list-short, conditions-short}
 use Rattle.placing.specs.Placing.{placeable, placed, Places}
 use Rattle.lines.specs.Lines.{answerText}
 use Rattle.lines.specs.Written.{Wrote, written}
@@ -32,7 +31,7 @@ use Rattle.register.specs.Calls.{request, outcome}
 use Rattle.stream.specs.declared.Stepped.{Stepped}
 use Rattle.stream.specs.Step.{Held, Turn, cellsOf, tables, keeping, describing, refuses, silent, labelsTurn, relationTurn, rowTurn, call, answered, statementTurn, turnOf, step}
 use Rattle.stream.specs.Facts.{holds, Took}
-use Rattle.stream.proofs.Parts.{take-least, drop-least, take-written}
+use Rattle.stream.proofs.Parts.{take-least, drop-least, take-written, room-written}
 
 pub took-as : {t u : Turn} {text values classes text′ : List ℕ} {r : Stepped} → t ≡ u → Took u text values classes text′ r → Took t text values classes text′ r
 took-as p x = rw p x
@@ -179,12 +178,6 @@ module _ (number : ℕ) (bytes : List ℕ) where
       let k = read-statement s in
       record { is = s; statement-is = cc; listed-is = cc; tested-is = cc }
 
-  pub few-listed : {r : Read} {statement : Statement} {listed tested : ℕ} → r ≡ readOf bytes number → r ≡ Reads.Statement statement listed tested → listed ≤ 512
-  few-listed p q = let k = stated p q in omega (arith, k .listed-is, list-short bytes (k .is))
-
-  pub few-tested : {r : Read} {statement : Statement} {listed tested : ℕ} → r ≡ readOf bytes number → r ≡ Reads.Statement statement listed tested → tested ≤ 512
-  few-tested p q = let k = stated p q in omega (arith, k .tested-is, conditions-short bytes (k .is))
-
   list-all : isStatement bytes ≡ true → listRead bytes ≡ listOf bytes
   unfolding listRead
   list-all s = rw s
@@ -192,6 +185,13 @@ module _ (number : ℕ) (bytes : List ℕ) where
   conditions-all : isStatement bytes ≡ true → conditionsRead bytes ≡ conditionsOf bytes
   unfolding conditionsRead
   conditions-all s = rw s
+
+  module _ {list list′ conditions conditions′ : List ℕ} {r : Read} {statement : Statement} {listed tested : ℕ} (k : Reading bytes number list list′ conditions conditions′ r) (q : r ≡ Reads.Statement statement listed tested) where
+    pub few-listed : listed ≤ length list′
+    few-listed = let z = stated (k .answer-is) q in room-written list (k .list-is) (list-all (z .is)) (z .listed-is)
+
+    pub few-tested : tested ≤ length conditions′
+    few-tested = let z = stated (k .answer-is) q in room-written conditions (k .conditions-is) (conditions-all (z .is)) (z .tested-is)
 
   same-call : {statement : Statement} {list conditions : List ℕ} → statement ≡ statementOf bytes → list ≡ listOf bytes → conditions ≡ conditionsOf bytes
       → call (statementOf bytes) bytes ≡ request statement list conditions (replicate 8192 0) (replicate 9216 0)

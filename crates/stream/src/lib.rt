@@ -30,7 +30,12 @@ fn refuse(text: &mut [u8], description: Description, last: u16, number: u64) -> 
     ensures { λ r. ⌜ ((values classes : List ℕ) → Took (refuses (holds last description values classes) number) (now (text .entry)) values classes (now (text .exit)) r) ⌝ }
 {
     let printed = lines::refusal(text, number);
-    Stepped { goes: false, printed, last, description }
+    Stepped {
+        goes: false,
+        printed,
+        last,
+        description,
+    }
 }
 
 // A record of kind 1.
@@ -47,7 +52,12 @@ fn labels(
         return refuse(text, description, last, number);
     }
     let description = describe::labels(bytes, description);
-    Stepped { goes: true, printed: 0, last: 1, description }
+    Stepped {
+        goes: true,
+        printed: 0,
+        last: 1,
+        description,
+    }
 }
 
 // A record of kind 2.
@@ -64,7 +74,12 @@ fn relation(
         return refuse(text, description, last, number);
     }
     let description = describe::relation(bytes, description);
-    Stepped { goes: true, printed: 0, last: 2, description }
+    Stepped {
+        goes: true,
+        printed: 0,
+        last: 2,
+        description,
+    }
 }
 
 // How many cells the tables take; a description that breaks a rule has none.
@@ -96,10 +111,20 @@ fn row(
     if classes.len() < extent {
         return refuse(text, description, last, number);
     }
-    if !place(bytes, &mut values[..extent], &mut classes[..extent], description) {
+    if !place(
+        bytes,
+        &mut values[..extent],
+        &mut classes[..extent],
+        description,
+    ) {
         return refuse(text, description, last, number);
     }
-    Stepped { goes: true, printed: 0, last: 3, description }
+    Stepped {
+        goes: true,
+        printed: 0,
+        last: 3,
+        description,
+    }
 }
 
 // The lesser of two.
@@ -158,7 +183,12 @@ fn answer(
     let relation = statement.relation;
     let columns = columns(description, relation);
     let printed = lines::answer(shown, owners, text, what, answer, columns);
-    Stepped { goes: true, printed, last: kind, description }
+    Stepped {
+        goes: true,
+        printed,
+        last: kind,
+        description,
+    }
 }
 
 // The record is read to a statement, which is run, or to its place of refusal.
@@ -176,12 +206,12 @@ fn call(
 {
     let mut list = [0u32; 512];
     let mut conditions = [0u32; 512];
-    let Read::Statement { statement, listed, tested } = statement(
-        bytes,
-        &mut list,
-        &mut conditions,
-        number,
-    ) else {
+    let Read::Statement {
+        statement,
+        listed,
+        tested,
+    } = statement(bytes, &mut list, &mut conditions, number)
+    else {
         return refuse(text, description, last, number);
     };
     let mut shown = [0u32; 8192];
@@ -225,5 +255,14 @@ pub fn step(
     if kind == 3 {
         return row(bytes, values, classes, text, description, last, number);
     }
-    call(bytes, values, classes, text, description, last, kind, number)
+    call(
+        bytes,
+        values,
+        classes,
+        text,
+        description,
+        last,
+        kind,
+        number,
+    )
 }

@@ -24,24 +24,16 @@ returns : tie.Need-returns
 returns c = took-as (statement-refused _ _ _ _ _ _ _ _ (c .before .before .before .before .before .before .statement .ensures .answer-is) (c .before .before .before .before .enum-told .given .1)) (c .before .before .refuse .ensures _ _)
 
 array-share-prefix-list : tie.Need-array-share-prefix-list
-array-share-prefix-list c =
-    let s = c .before .before .before .statement in
-    omega (arith, few-listed _ _ (s .ensures .answer-is) (c .before .statement2 .given .1), s .kept .1 .0)
+array-share-prefix-list c = few-listed _ _ (c .before .before .before .statement .ensures) (c .before .statement2 .given .1)
 
 slice-aggregate-answer : tie.Need-slice-aggregate-answer
-slice-aggregate-answer c =
-    let s = c .before .before .before .before .statement in
-    simp length-take (omega (arith, few-listed _ _ (s .ensures .answer-is) (c .before .before .statement2 .given .1), s .kept .1 .0))
+slice-aggregate-answer c = simp length-take (omega (arith, few-listed _ _ (c .before .before .before .before .statement .ensures) (c .before .before .statement2 .given .1)))
 
 array-share-prefix-conditions : tie.Need-array-share-prefix-conditions
-array-share-prefix-conditions c =
-    let s = c .before .before .before .before .statement in
-    omega (arith, few-tested _ _ (s .ensures .answer-is) (c .before .before .statement2 .given .1), s .kept .1 .1 .0)
+array-share-prefix-conditions c = few-tested _ _ (c .before .before .before .before .statement .ensures) (c .before .before .statement2 .given .1)
 
 slice-aggregate-answer-2 : tie.Need-slice-aggregate-answer-2
-slice-aggregate-answer-2 c =
-    let s = c .before .before .before .before .before .statement in
-    simp length-take (omega (arith, few-tested _ _ (s .ensures .answer-is) (c .before .before .before .statement2 .given .1), s .kept .1 .1 .0))
+slice-aggregate-answer-2 c = simp length-take (omega (arith, few-tested _ _ (c .before .before .before .before .before .statement .ensures) (c .before .before .before .statement2 .given .1)))
 
 slice-aggregate-answer-3 : tie.Need-slice-aggregate-answer-3
 slice-aggregate-answer-3 c = search needs
