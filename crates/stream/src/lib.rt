@@ -8,7 +8,6 @@ use records::statement::statement;
 ghost use mathlib.Core.Path.{_≡_};
 ghost use mathlib.Core.List.{List};
 ghost use Prim.Native.Nat.{ℕ, _≤_, min};
-ghost use lib.ListN.{length, replicate};
 ghost use Rattle.model.specs.Description.{columnCount};
 ghost use Rattle.model.specs.Run.{run};
 ghost use Rattle.register.specs.Calls.{request};
@@ -193,46 +192,6 @@ fn answer(
 }
 
 // The record is read to a statement, which is run, or to its place of refusal.
-fn carry(
-    bytes: &[u8],
-    values: &mut [u32],
-    classes: &mut [u8],
-    text: &mut [u8],
-    list: &mut [u32; 512],
-    conditions: &mut [u32; 512],
-    shown: &mut [u32],
-    owners: &mut [u8],
-    description: Description,
-    last: u16,
-    kind: u16,
-    number: u64,
-) -> Stepped
-    requires { ⌜ (now shown ≡ replicate 8192 0) × (now owners ≡ replicate 9216 0) ⌝ }
-    ensures { λ r. ⌜ Took (statementTurn (holds last description (now (values .entry)) (now (classes .entry))) kind number (now (bytes .entry))) (now (text .entry)) (now (values .exit)) (now (classes .exit)) (now (text .exit)) r ⌝ }
-{
-    let Read::Statement {
-        statement,
-        listed,
-        tested,
-    } = statement(bytes, list, conditions, number)
-    else {
-        return refuse(text, description, last, number);
-    };
-    answer(
-        &list[..listed],
-        &conditions[..tested],
-        values,
-        classes,
-        shown,
-        owners,
-        text,
-        description,
-        statement,
-        kind,
-    )
-}
-
-// A statement's record, with buffers for its lists and its rows.
 fn call(
     bytes: &[u8],
     values: &mut [u32],
@@ -247,21 +206,27 @@ fn call(
 {
     let mut list = [0u32; 512];
     let mut conditions = [0u32; 512];
+    let Read::Statement {
+        statement,
+        listed,
+        tested,
+    } = statement(bytes, &mut list, &mut conditions, number)
+    else {
+        return refuse(text, description, last, number);
+    };
     let mut shown = [0u32; 8192];
     let mut owners = [0u8; 9216];
-    carry(
-        bytes,
+    answer(
+        &list[..listed],
+        &conditions[..tested],
         values,
         classes,
-        text,
-        &mut list,
-        &mut conditions,
         &mut shown,
         &mut owners,
+        text,
         description,
-        last,
+        statement,
         kind,
-        number,
     )
 }
 

@@ -1,0 +1,4 @@
+pub mod Counted
+pub mod Parts
+pub mod Settled
+pub mod Turns
