@@ -2,16 +2,129 @@
 
 mod reached;
 mod register;
+mod trial;
 
 use std::io::{Read, Write};
+use std::path::{Path, PathBuf};
+use std::process::ExitCode;
+use trial::compare::{self, Trial};
+use trial::{list, worked};
 
-fn main() {
-    let mut input = Vec::new();
-    std::io::stdin().read_to_end(&mut input).unwrap();
-    reached::begin();
-    let output = register::program::run(&input);
-    std::io::stdout().write_all(output.as_bytes()).unwrap();
-    for (name, count) in reached::end() {
-        eprintln!("{count} {name}");
+const USAGE: &str = "usage:
+  peer run [--reached]                      standard input is a stream; --reached writes to standard error what was reached
+  peer make SEED N FOLDER                   writes N streams, with their outputs
+  peer compare SEED N FOLDER PROGRAM ..     compares a program with this one; FOLDER keeps streams that differ
+  peer differs SEED N FOLDER PROGRAM ..     the same to the first difference; fails where there is none
+  peer reach SEED N                         how often N streams reach what, without another program
+  peer worked                               01's worked rows";
+
+fn main() -> ExitCode {
+    let arguments: Vec<String> = std::env::args().skip(1).collect();
+    let words: Vec<&str> = arguments.iter().map(String::as_str).collect();
+    let done = match words.as_slice() {
+        ["run"] => run(false),
+        ["run", "--reached"] => run(true),
+        ["make", seed, streams, folder] => make(seed, streams, folder),
+        ["compare", seed, streams, folder, program @ ..] => trial(seed, streams, folder, program).and_then(|trial| compared(&trial)),
+        ["differs", seed, streams, folder, program @ ..] => trial(seed, streams, folder, program).and_then(|trial| differs(&trial)),
+        ["reach", seed, streams] => reach(seed, streams),
+        ["worked"] => worked_rows(),
+        [] => Err(format!("a command is missing\n{USAGE}")),
+        [command, ..] => Err(format!("'{command}' is no command, or has other arguments\n{USAGE}")),
+    };
+    match done {
+        Ok(true) => ExitCode::SUCCESS,
+        Ok(false) => ExitCode::FAILURE,
+        Err(message) => {
+            eprintln!("peer: {message}");
+            ExitCode::from(2)
+        }
     }
+}
+
+/// `mlrun`, and where asked a line for each name that was reached.
+fn run(tell: bool) -> Result<bool, String> {
+    let mut input = Vec::new();
+    std::io::stdin().read_to_end(&mut input).map_err(|error| format!("standard input: {error}"))?;
+    if tell {
+        reached::begin();
+    }
+    let output = register::program::run(&input);
+    std::io::stdout().write_all(output.as_bytes()).map_err(|error| format!("standard output: {error}"))?;
+    for (name, count) in reached::end() {
+        eprintln!("{count:>9}  {name}");
+    }
+    Ok(true)
+}
+
+fn number(what: &str, text: &str) -> Result<u64, String> {
+    text.parse().map_err(|_| format!("{what} '{text}' is no number"))
+}
+
+fn make(seed: &str, streams: &str, folder: &str) -> Result<bool, String> {
+    let (seed, streams) = (number("SEED", seed)?, number("N", streams)?);
+    compare::make(seed, streams as usize, Path::new(folder)).map_err(|error| format!("{folder}: {error}"))?;
+    Ok(true)
+}
+
+fn trial(seed: &str, streams: &str, folder: &str, program: &[&str]) -> Result<Trial, String> {
+    if program.is_empty() {
+        return Err("PROGRAM is missing".to_string());
+    }
+    std::fs::create_dir_all(folder).map_err(|error| format!("{folder}: {error}"))?;
+    Ok(Trial {
+        program: program.iter().map(|word| word.to_string()).collect(),
+        seed: number("SEED", seed)?,
+        streams: number("N", streams)? as usize,
+        folder: PathBuf::from(folder),
+        stop_at_first: false,
+    })
+}
+
+/// The comparison: streams, 01's worked rows, and the list of what must be reached.
+fn compared(trial: &Trial) -> Result<bool, String> {
+    let result = compare::run(trial);
+    let (lines, mut wrong) = list::report(&result.reached);
+    for line in &lines {
+        println!("{line}");
+    }
+    let claims = worked::claims();
+    wrong.extend(claims.iter().filter(|(_, holds)| !holds).map(|(name, _)| format!("the peer itself: {name} of 01 does not hold")));
+    for line in result.differences.iter().take(20).chain(&wrong) {
+        println!("FAILED: {line}");
+    }
+    let failed = result.differences.len() + wrong.len();
+    let passed = (result.compared + lines.len() + claims.len()).saturating_sub(failed);
+    println!("seed {}: {} streams compared, {} differ", trial.seed, result.compared, result.differences.len());
+    println!("{passed} passed, {failed} failed");
+    Ok(failed == 0 && passed > 0)
+}
+
+/// How often each name is reached, the rarest first.
+fn reach(seed: &str, streams: &str) -> Result<bool, String> {
+    let mut counts: Vec<(u64, String)> =
+        compare::reach(number("SEED", seed)?, number("N", streams)? as usize).into_iter().map(|(name, count)| (count, name)).collect();
+    counts.sort();
+    for (count, name) in counts {
+        println!("{count:>9}  {name}");
+    }
+    Ok(true)
+}
+
+/// Whether a program is found to differ.
+fn differs(trial: &Trial) -> Result<bool, String> {
+    let result = compare::run(&Trial { program: trial.program.clone(), folder: trial.folder.clone(), stop_at_first: true, ..*trial });
+    match result.differences.first() {
+        Some(difference) => println!("{difference}; {} streams compared", result.compared),
+        None => println!("no difference in {} streams", result.compared),
+    }
+    Ok(!result.differences.is_empty())
+}
+
+fn worked_rows() -> Result<bool, String> {
+    let claims = worked::claims();
+    for (name, holds) in &claims {
+        println!("{} {name}", if *holds { "holds " } else { "FAILED" });
+    }
+    Ok(claims.iter().all(|(_, holds)| *holds))
 }

@@ -1,0 +1,167 @@
+//! Runs another `mlrun` and this program on the same streams and compares every byte.
+
+use super::{generate, special};
+use crate::reached::{self, Counts};
+use crate::register::program;
+use std::fs::{self, File};
+use std::path::{Path, PathBuf};
+use std::process::{Command, Stdio};
+use std::sync::atomic::{AtomicBool, AtomicUsize, Ordering};
+use std::sync::Mutex;
+use std::time::{Duration, Instant};
+
+/// How long another program may take for one stream.
+const PATIENCE: Duration = Duration::from_secs(60);
+
+/// What is compared: the special streams, then those of a seed.
+pub struct Trial {
+    pub program: Vec<String>,
+    pub seed: u64,
+    pub streams: usize,
+    pub folder: PathBuf,
+    pub stop_at_first: bool,
+}
+
+/// What came of it. `differences` says where each difference is kept.
+pub struct Result {
+    pub compared: usize,
+    pub differences: Vec<String>,
+    pub reached: Counts,
+}
+
+/// A stream by its name, and what 01 prints for it where 01 says so.
+pub struct Stream {
+    pub name: String,
+    pub bytes: Vec<u8>,
+    pub printed: Option<&'static str>,
+}
+
+pub fn run(trial: &Trial) -> Result {
+    let specials = if trial.stop_at_first { vec![special::sample()] } else { special::streams(trial.seed) };
+    let total = specials.len() + trial.streams;
+    let next = AtomicUsize::new(0);
+    let stop = AtomicBool::new(false);
+    let result = Mutex::new(Result { compared: 0, differences: Vec::new(), reached: Counts::new() });
+    std::thread::scope(|scope| {
+        for worker in 0..2 {
+            let (specials, next, stop, result) = (&specials, &next, &stop, &result);
+            scope.spawn(move || loop {
+                let place = next.fetch_add(1, Ordering::Relaxed);
+                if place >= total || stop.load(Ordering::Relaxed) {
+                    return;
+                }
+                let made;
+                let stream = match specials.get(place) {
+                    Some(special) => special,
+                    None => {
+                        made = seeded(trial.seed, place - specials.len());
+                        &made
+                    }
+                };
+                let (reached, difference) = try_one(trial, worker, stream);
+                stop.fetch_or(trial.stop_at_first && difference.is_some(), Ordering::Relaxed);
+                add(&mut result.lock().unwrap(), reached, difference);
+            });
+        }
+    });
+    result.into_inner().unwrap()
+}
+
+fn seeded(seed: u64, number: usize) -> Stream {
+    Stream { name: format!("{seed}-{number}"), bytes: generate::stream(seed, number as u64), printed: None }
+}
+
+fn add(result: &mut Result, reached: Counts, difference: Option<String>) {
+    result.compared += 1;
+    result.differences.extend(difference);
+    for (name, count) in reached {
+        *result.reached.entry(name).or_insert(0) += count;
+    }
+}
+
+/// Runs both on one stream. Where they differ, the stream and both outputs are kept.
+fn try_one(trial: &Trial, worker: usize, stream: &Stream) -> (Counts, Option<String>) {
+    reached::begin();
+    let ours = program::run(&stream.bytes);
+    let reached = reached::end();
+    let theirs = other(trial, worker, &stream.bytes);
+    let as_printed = stream.printed.is_none_or(|printed| printed == ours);
+    let difference = match &theirs {
+        Ok(theirs) if theirs == ours.as_bytes() && as_printed => return (reached, None),
+        Ok(_) if !as_printed => "the peer does not print what 01 prints".to_string(),
+        Ok(theirs) => format!("line {} of the output differs", first_difference(ours.as_bytes(), theirs)),
+        Err(reason) => reason.clone(),
+    };
+    let kept = trial.folder.join(&stream.name);
+    let with = |ending: &str| PathBuf::from(format!("{}.{ending}", kept.display()));
+    let written = fs::write(with("bin"), &stream.bytes)
+        .and_then(|()| fs::write(with("peer"), &ours))
+        .and_then(|()| fs::write(with("mlrun"), theirs.unwrap_or_default()));
+    let place = match written {
+        Ok(()) => format!("kept as {}.bin, with .peer and .mlrun", kept.display()),
+        Err(error) => format!("could not be kept: {error}"),
+    };
+    (reached, Some(format!("stream {}: {difference}; {place}", stream.name)))
+}
+
+/// The number, from 1, of the first line that differs.
+fn first_difference(ours: &[u8], theirs: &[u8]) -> usize {
+    let same = ours.iter().zip(theirs).take_while(|(a, b)| a == b).count();
+    1 + ours[..same].iter().filter(|&&byte| byte == b'\n').count()
+}
+
+/// What the other program prints. Files stand for its input and output, so that no pipe can fill up.
+fn other(trial: &Trial, worker: usize, bytes: &[u8]) -> std::result::Result<Vec<u8>, String> {
+    let (input, output) = (trial.folder.join(format!("input{worker}")), trial.folder.join(format!("output{worker}")));
+    let say = |what: &str, error: std::io::Error| format!("{what}: {error}");
+    fs::write(&input, bytes).map_err(|error| say("the stream can't be written", error))?;
+    let from = File::open(&input).map_err(|error| say("the stream can't be read", error))?;
+    let to = File::create(&output).map_err(|error| say("the output can't be written", error))?;
+    let status = finish(&trial.program, from, to)?;
+    let printed = fs::read(&output).map_err(|error| say("the output can't be read", error))?;
+    match status {
+        0 => Ok(printed),
+        status => Err(format!("the program ended with status {status}")),
+    }
+}
+
+/// Starts the program and waits for its end; one that takes too long is ended.
+fn finish(program: &[String], from: File, to: File) -> std::result::Result<i32, String> {
+    let mut command = Command::new(&program[0]);
+    command.args(&program[1..]).stdin(Stdio::from(from)).stdout(Stdio::from(to)).stderr(Stdio::null());
+    let mut child = command.spawn().map_err(|error| format!("{} can't be started: {error}", program[0]))?;
+    let begun = Instant::now();
+    loop {
+        match child.try_wait() {
+            Ok(Some(status)) => return Ok(status.code().unwrap_or(-1)),
+            Ok(None) if begun.elapsed() < PATIENCE => std::thread::sleep(Duration::from_micros(150)),
+            Ok(None) => {
+                let _ = child.kill();
+                let _ = child.wait();
+                return Err(format!("the program took over {} seconds", PATIENCE.as_secs()));
+            }
+            Err(error) => return Err(format!("the program can't be waited for: {error}")),
+        }
+    }
+}
+
+/// What the streams of a seed reach.
+pub fn reach(seed: u64, streams: usize) -> Counts {
+    let mut made = (0..streams).map(|number| seeded(seed, number)).collect::<Vec<_>>();
+    reached::begin();
+    for stream in made.drain(..) {
+        program::run(&stream.bytes);
+    }
+    reached::end()
+}
+
+/// Writes the streams of a seed into a folder, with what this program prints for each.
+pub fn make(seed: u64, streams: usize, folder: &Path) -> std::io::Result<()> {
+    fs::create_dir_all(folder)?;
+    for number in 0..streams {
+        let stream = seeded(seed, number);
+        fs::write(folder.join(format!("{number}.bin")), &stream.bytes)?;
+        fs::write(folder.join(format!("{number}.out")), program::run(&stream.bytes))?;
+    }
+    Ok(())
+}
