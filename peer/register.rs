@@ -109,6 +109,18 @@ fn note_freed(tables: &Tables, relation: usize, level: usize, place: usize) {
     }
 }
 
+/// Notes on which side of a column's range a level stands that is outside it.
+fn note_outside(description: &Description, relation: usize, columns: &[usize], level: usize) {
+    for &column in columns {
+        let (low, high) = description.relation(relation).ranges[column - 1];
+        match (description.dominates(high, level), description.dominates(level, low)) {
+            (false, true) => reached::note("6, a level that H doesn't dominate"),
+            (true, false) => reached::note("6, a level that doesn't dominate L"),
+            _ => {}
+        }
+    }
+}
+
 /// Notes the one rule that is broken. The class of a named row's key can't be wrong alone.
 fn note_broken(broken: &[&str], faults: &[&str]) {
     let never_alone = "a reference below the key class it names";

@@ -3,7 +3,7 @@
 use super::description::Description;
 use super::fields::{column_faults, place_faults};
 use super::tables::*;
-use super::{least, note_freed, Outcome};
+use super::{least, note_freed, note_outside, Outcome};
 use crate::reached;
 
 #[derive(Clone)]
@@ -46,8 +46,17 @@ fn listed_value(insert: &Insert, column: usize) -> Option<u32> {
 }
 
 /// Number 6: "c outside the range of a listed INSERT column".
-pub fn out_of_range(description: &Description, insert: &Insert) -> bool {
-    insert.listed.iter().any(|&(column, _)| !description.in_range(insert.relation, column, insert.level))
+fn out_of_range(description: &Description, insert: &Insert) -> bool {
+    let outside = |column: usize| !description.in_range(insert.relation, column, insert.level);
+    let columns: Vec<usize> = insert.listed.iter().map(|&(column, _)| column).filter(|&column| outside(column)).collect();
+    note_outside(description, insert.relation, &columns, insert.level);
+    match columns.as_slice() {
+        [] => {}
+        [1] => reached::note("INSERT 6, the key column"),
+        columns if !columns.contains(&1) => reached::note("INSERT 6, another column"),
+        _ => {}
+    }
+    !columns.is_empty()
 }
 
 /// Number 9: "INSERT: key present at c".
@@ -83,6 +92,9 @@ fn with_new_row(description: &Description, tables: &Tables, insert: &Insert) -> 
 
 fn new_cell(description: &Description, insert: &Insert, column: usize) -> Cell {
     if let Some(value) = listed_value(insert, column) {
+        if value == 0 {
+            reached::note("INSERT, a null listed");
+        }
         return Cell { value, class: insert.level };
     }
     let null = description.own_null(insert.relation, column, insert.level);

@@ -62,9 +62,12 @@ fn size_faults(relation: &Relation) -> Vec<&'static str> {
     faults
 }
 
-/// "a range L to H of levels per column"; "or L is not dominated by H".
+/// "a range L to H of levels per column"; "or L is not dominated by H". Where there is no level, that is the fault.
 fn range_faults(description: &Description, relation: &Relation) -> Vec<&'static str> {
     let mut faults = Vec::new();
+    if description.labels.is_empty() {
+        return faults;
+    }
     for &(low, high) in &relation.ranges {
         if !description.has_level(low) {
             faults.push("L is no level");

@@ -51,7 +51,7 @@ fn entities_met(description: &Description, tables: &Tables, update: &Update) -> 
 }
 
 /// Number 6: "c outside the range of a .. SET column".
-pub fn out_of_range(description: &Description, update: &Update) -> bool {
+fn out_of_range(description: &Description, update: &Update) -> bool {
     update.set.iter().any(|&(column, _)| !description.in_range(update.relation, column, update.level))
 }
 
@@ -69,6 +69,9 @@ fn with_cells_set(description: &Description, tables: &Tables, update: &Update, m
     let mut new = tables.clone();
     for &who in met {
         for &(column, value) in &update.set {
+            if value == 0 {
+                reached::note("UPDATE, a null set");
+            }
             if let Some(row) = new.row_of_mut(update.relation, update.level, who) {
                 row[column - 1] = Cell { value, class: update.level };
             }

@@ -67,7 +67,7 @@ fn visible_entities(description: &Description, tables: &Tables, uplevel: &Upleve
 }
 
 /// Number 5: "a FROM, .. or key class level isn't dominated by c".
-pub fn not_dominated(description: &Description, uplevel: &Uplevel) -> bool {
+fn not_dominated(description: &Description, uplevel: &Uplevel) -> bool {
     let hidden = |level: usize| !description.dominates(uplevel.level, level);
     let from = uplevel.from.iter().any(|&(_, level)| hidden(level));
     let key_class = uplevel.key_class != NO_CLASS && hidden(uplevel.key_class);
@@ -129,8 +129,10 @@ fn new_cell(description: &Description, tables: &Tables, uplevel: &Uplevel, who: 
     note_lender(tables, uplevel, who, column, lender);
     let borrowed = lent(tables, uplevel, who, column, lender);
     if names_another(description, tables, uplevel, column, borrowed) {
-        reached::note("UPLEVEL, a reference that names another entity turned own null");
-        return own_null(description, uplevel, column);
+        let null = own_null(description, uplevel, column);
+        let class = if null.class == NO_CLASS { "without a class" } else { "of its level" };
+        reached::note(&format!("UPLEVEL, a reference that names another entity turned own null {class}"));
+        return null;
     }
     borrowed
 }
@@ -163,6 +165,9 @@ fn with_row(description: &Description, tables: &Tables, uplevel: &Uplevel, who: 
     let columns = 1..=description.relation(uplevel.relation).columns();
     let row: Row = columns.map(|column| new_cell(description, tables, uplevel, who, column)).collect();
     let mut new = tables.clone();
+    if uplevel.from.is_empty() {
+        reached::note("UPLEVEL, an empty list");
+    }
     if let Some(old) = new.row_of_mut(uplevel.relation, uplevel.level, who) {
         reached::note("UPLEVEL, a row replaced");
         *old = row.clone();

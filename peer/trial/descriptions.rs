@@ -34,6 +34,28 @@ pub fn small(random: &mut Random) -> Description {
     description
 }
 
+/// Two relations over levels that go up by several ways, the second with a reference to the first, most ranges wide.
+pub fn referring(random: &mut Random) -> Description {
+    let mut labels = random.pick(&[vec![0, 1, 3], vec![0, 1, 2, 3], vec![0, 1, 2, 3, 259], vec![0, 1, 257, 258, 259]]);
+    random.shuffle(&mut labels);
+    let mut description = Description { labels, relations: Vec::new() };
+    let ends = ends(&description);
+    let rows = random.between(2, 3);
+    description.relations.push(Relation { rows, foreign: 0, refers: 0, ranges: vec![ends; random.between(1, 2)] });
+    let mut ranges = vec![ends; random.between(2, 3)];
+    if random.chance(35) {
+        ranges[1] = range(random, &description);
+    }
+    description.relations.push(Relation { rows, foreign: 2, refers: 1, ranges });
+    description
+}
+
+/// The levels with the least and the greatest label, which are bottom and top where there are such.
+fn ends(description: &Description) -> (usize, usize) {
+    let by_label = |level: &usize| description.labels[*level];
+    (description.levels().min_by_key(by_label).unwrap_or(0), description.levels().max_by_key(by_label).unwrap_or(0))
+}
+
 fn labels(random: &mut Random) -> Vec<u32> {
     let mut labels = random.pick(&SHAPES).to_vec();
     if random.chance(15) {

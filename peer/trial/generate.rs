@@ -12,7 +12,8 @@ pub fn stream(seed: u64, number: u64) -> Vec<u8> {
     let random = &mut Random::new(seed, number);
     match random.below(1000) {
         0..=4 => full(random),
-        5..=489 => sound(random).concat(),
+        5..=349 => sound(random).concat(),
+        350..=489 => referring(random),
         490..=529 => at_limit(random),
         530..=639 => unsound(random),
         640..=779 => not_legal(random),
@@ -63,7 +64,10 @@ pub fn sound(random: &mut Random) -> Records {
 }
 
 fn with_tables(random: &mut Random, description: &Description) -> Records {
-    let tables = if random.chance(60) { rows::rich(random, description) } else { rows::some(random, description) };
+    let mut tables = if random.chance(60) { rows::rich(random, description) } else { rows::some(random, description) };
+    if random.chance(20) {
+        rows::take_classes(random, description, &mut tables);
+    }
     let mut records = encode::description(description);
     let mut placed = encode::rows(&tables);
     if random.chance(10) {
@@ -90,6 +94,17 @@ fn rows_moved_up(description: &Description, tables: &Tables) -> Tables {
         }
     }
     moved
+}
+
+/// References at several levels, and keys that several entities have.
+fn referring(random: &mut Random) -> Vec<u8> {
+    let description = descriptions::referring(random);
+    let tables = rows_moved_up(&description, &rows::rich(random, &description));
+    let mut records = encode::description(&description);
+    records.extend(encode::rows(&tables));
+    let count = random.between(5, 30);
+    records.extend(statements_and_show(random, &description, &tables, count, 3));
+    records.concat()
 }
 
 fn full(random: &mut Random) -> Vec<u8> {

@@ -43,10 +43,10 @@ pub fn damage(random: &mut Random, description: &Description, rows: &mut Rows) {
     }
 }
 
-/// Labels 0, 1, 3 and two relations, the second with a reference to the first.
+/// Labels 0, 1, 3 and two relations, the second with a reference to the first. Column 2 of the first is for levels 0 and 1.
 fn two_relations() -> Description {
-    let relation = |foreign, refers| Relation { rows: 2, foreign, refers, ranges: vec![(0, 2), (0, 2)] };
-    Description { labels: vec![0, 1, 3], relations: vec![relation(0, 0), relation(2, 1)] }
+    let relation = |foreign, refers, high| Relation { rows: 2, foreign, refers, ranges: vec![(0, 2), (0, high)] };
+    Description { labels: vec![0, 1, 3], relations: vec![relation(0, 0, 1), relation(2, 1, 2)] }
 }
 
 /// A borrowed reference that names another entity at its row's level than at its class. Both entities' key classes are dominated by the
@@ -64,12 +64,14 @@ pub fn another_entity(random: &mut Random) -> (Description, Rows) {
 pub fn by_hand(random: &mut Random) -> (Description, Rows) {
     let value = random.between(2, 9) as u32;
     let row = |key: (u32, usize), other: (u32, usize)| vec![Cell { value: key.0, class: key.1 }, Cell { value: other.0, class: other.1 }];
-    let rows = match random.below(6) {
+    let rows = match random.below(8) {
         0 => vec![(1, 1, row((7, 1), (0, 0)))],
         1 => vec![(1, 0, row((7, 0), (value, 0))), (1, 1, row((7, 0), (0, 0)))],
         2 => vec![(1, 0, row((0, 0), (value, 0)))],
         3 => vec![(1, 0, row((0, 255), (value, 0)))],
         4 => vec![(1, 0, row((7, 0), (value, 0))), (1, 1, row((7, 0), (value, 1))), (1, 2, row((7, 0), (value, 0))), (1, 2, row((7, 0), (value, 0)))],
+        5 => vec![(1, 2, row((7, 2), (0, 2)))],
+        6 => vec![(1, 2, row((7, 2), (value, 2)))],
         _ => vec![(2, 0, row((7, 0), (value, 0)))],
     };
     (two_relations(), rows)

@@ -62,6 +62,19 @@ fn borrow_all(random: &mut Random, description: &Description, tables: &mut Table
     }
 }
 
+/// Takes the class from some nulls, which no statement does: (0, 255) is legal everywhere.
+pub fn take_classes(random: &mut Random, description: &Description, tables: &mut Tables) {
+    for relation in description.relation_numbers() {
+        for level in description.levels() {
+            for cell in tables.rows_mut(relation, level).flatten() {
+                if cell.value == 0 && random.chance(40) {
+                    cell.class = NO_CLASS;
+                }
+            }
+        }
+    }
+}
+
 /// Tables with nearly every row in use: each entity has its base row at bottom and a row at every level. A relation whose keys can't be of
 /// bottom's class stays empty.
 pub fn full(random: &mut Random, description: &Description) -> Tables {

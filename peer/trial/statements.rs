@@ -53,7 +53,7 @@ fn relation(random: &mut Random, view: &View) -> usize {
 /// The columns but the key, in any order; in most statements all of them in a range that holds the level.
 fn columns(random: &mut Random, view: &View, relation: usize, level: usize) -> Vec<usize> {
     let all = 2..=view.description.relation(relation).columns();
-    let outside = random.pick(&[0, 0, 0, 0, 0, 0, 0, 0, 60]);
+    let outside = random.pick(&[0, 0, 0, 0, 0, 0, 60]);
     let mut columns: Vec<usize> = all
         .filter(|&column| {
             let often = if view.description.in_range(relation, column, level) { 80 } else { outside };
@@ -69,9 +69,7 @@ fn value(random: &mut Random, view: &View, relation: usize, level: usize, column
     let of = view.description.relation(relation);
     if of.foreign == column && random.chance(80) {
         let keys: Vec<u32> = view.tables.rows(of.refers, level).map(|row| row[0].value).collect();
-        if let Some(key) = random.one_of(&keys) {
-            return key;
-        }
+        return random.one_of(&keys).unwrap_or(0);
     }
     match random.below(20) {
         0 | 1 => 0,
@@ -235,7 +233,7 @@ pub fn uplevel(random: &mut Random, view: &View) -> Statement {
 pub fn uplevel_of(random: &mut Random, view: &View, (relation, level): (usize, usize), who: Entity) -> Statement {
     let (key, class) = (who.key, who.class);
     let key_class = if random.chance(45) { class } else { NO_CLASS };
-    let astray = random.pick(&[0, 0, 0, 0, 0, 0, 0, 0, 60]);
+    let astray = random.pick(&[0, 0, 0, 0, 0, 0, 60]);
     let mut from = Vec::new();
     for column in 2..=view.description.relation(relation).columns() {
         if random.chance(astray) {
