@@ -43,8 +43,9 @@ pub fn referring(random: &mut Random) -> Description {
     let rows = random.between(2, 3);
     description.relations.push(Relation { rows, foreign: 0, refers: 0, ranges: vec![ends; random.between(1, 2)] });
     let mut ranges = vec![ends; random.between(2, 3)];
-    if random.chance(35) {
-        ranges[1] = range(random, &description);
+    if random.chance(50) {
+        let place = random.between(1, ranges.len() - 1);
+        ranges[place] = (ends.0, random.below(description.labels.len()));
     }
     description.relations.push(Relation { rows, foreign: 2, refers: 1, ranges });
     description

@@ -192,8 +192,11 @@ pub fn delete(random: &mut Random, view: &View) -> Statement {
     Statement::Delete(Delete { level, relation, conditions: conditions(random, view, relation, level) })
 }
 
-/// An UPDATE; often of a cell that is lent.
+/// An UPDATE; often of a cell that is lent, now and then with two faults.
 pub fn update(random: &mut Random, view: &View) -> Statement {
+    if random.chance(5) {
+        return update_with_two_faults(random, view);
+    }
     if let (Some(loan), true) = (loan(random, view), random.chance(50)) {
         let value = value(random, view, loan.relation, loan.lender, loan.column);
         let set = vec![(loan.column, value)];
@@ -203,6 +206,15 @@ pub fn update(random: &mut Random, view: &View) -> Statement {
     update_at(random, view, relation, level)
 }
 
+/// An UPDATE of a reference that names no row, most times, with columns out of range where there are any.
+fn update_with_two_faults(random: &mut Random, view: &View) -> Statement {
+    let (relation, level) = place(random, view);
+    let of = view.description.relation(relation);
+    let outside = (2..=of.columns()).filter(|&column| column == of.foreign || !view.description.in_range(relation, column, level));
+    let set = outside.map(|column| (column, random.between(8, 20) as u32)).collect();
+    Statement::Update(Update { level, relation, set, conditions: Vec::new() })
+}
+
 /// An UPDATE of rows of a relation at a level.
 pub fn update_at(random: &mut Random, view: &View, relation: usize, level: usize) -> Statement {
     let columns = columns(random, view, relation, level);
@@ -210,8 +222,13 @@ pub fn update_at(random: &mut Random, view: &View, relation: usize, level: usize
     Statement::Update(Update { level, relation, set, conditions: conditions(random, view, relation, level) })
 }
 
-/// An UPLEVEL; now and then of a row that lends, so that it is replaced.
+/// An UPLEVEL; now and then of a row that lends, so that it is replaced, or with two faults.
 pub fn uplevel(random: &mut Random, view: &View) -> Statement {
+    if random.chance(8) {
+        if let Some(statement) = uplevel_with_two_faults(random, view) {
+            return statement;
+        }
+    }
     if let (Some(loan), true) = (loan(random, view), random.chance(25)) {
         return uplevel_of(random, view, (loan.relation, loan.lender), loan.who);
     }
@@ -229,14 +246,30 @@ pub fn uplevel(random: &mut Random, view: &View) -> Statement {
     uplevel_of(random, view, (relation, level), Entity { key, class })
 }
 
+/// An UPLEVEL that borrows a reference to any level above, and the other columns from anywhere.
+fn uplevel_with_two_faults(random: &mut Random, view: &View) -> Option<Statement> {
+    let owns_reference = |(relation, level, row): &(usize, usize, &Row)| {
+        let foreign = view.description.relation(*relation).foreign;
+        foreign != 0 && cell(row, foreign).value != 0 && cell(row, foreign).class == *level
+    };
+    let lenders: Vec<(usize, usize, &Row)> = view.tables.all_rows().filter(owns_reference).collect();
+    let (relation, lender, row) = random.one_of(&lenders)?;
+    let level = random.one_of(&view.description.levels_above(lender))?;
+    let of = view.description.relation(relation);
+    let any = |random: &mut Random, column| if column == of.foreign { lender } else { random.below(view.description.labels.len()) };
+    let from = (2..=of.columns()).map(|column| (column, any(random, column))).collect();
+    Some(Statement::Uplevel(Uplevel { level, relation, key: row[0].value, key_class: row[0].class, from }))
+}
+
 /// An UPLEVEL of an entity to a level.
 pub fn uplevel_of(random: &mut Random, view: &View, (relation, level): (usize, usize), who: Entity) -> Statement {
     let (key, class) = (who.key, who.class);
     let key_class = if random.chance(45) { class } else { NO_CLASS };
-    let astray = random.pick(&[0, 0, 0, 0, 0, 0, 60]);
+    let columns = view.description.relation(relation).columns();
+    let astray = if random.chance(20) { random.between(2, columns.max(2)) } else { 0 };
     let mut from = Vec::new();
-    for column in 2..=view.description.relation(relation).columns() {
-        if random.chance(astray) {
+    for column in 2..=columns {
+        if column == astray {
             from.push((column, random.below(view.description.labels.len())));
         } else if random.chance(75) {
             from.push((column, lender(random, view, (relation, level, column), who)));
