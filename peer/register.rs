@@ -13,8 +13,8 @@ pub mod records;
 pub mod select;
 pub mod sound;
 pub mod tables;
-pub mod uplevel;
 pub mod update;
+pub mod uplevel;
 
 use crate::reached;
 use delete::Delete;

@@ -6,8 +6,8 @@ use super::description::Relation;
 use super::insert::Insert;
 use super::select::Select;
 use super::tables::{Cell, Row};
-use super::uplevel::Uplevel;
 use super::update::Update;
+use super::uplevel::Uplevel;
 use super::Statement;
 
 /// A record that is neither cut nor over 1,024 bytes.

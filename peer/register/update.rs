@@ -17,10 +17,7 @@ pub struct Update {
 
 pub fn answer(description: &Description, tables: &Tables, update: &Update) -> Outcome {
     let met = entities_met(description, tables, update);
-    let grounds = [
-        (6, out_of_range(description, update)),
-        (11, !met.is_empty() && reference_without_row(description, tables, update)),
-    ];
+    let grounds = [(6, out_of_range(description, update)), (11, !met.is_empty() && reference_without_row(description, tables, update))];
     match least("UPDATE", &grounds) {
         Some(number) => Outcome::Refused(number),
         None => Outcome::Changed(with_cells_set(description, tables, update, &met), met.len()),

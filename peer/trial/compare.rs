@@ -11,7 +11,7 @@ use std::sync::Mutex;
 use std::time::{Duration, Instant};
 
 /// How long another program may take for one stream.
-const PATIENCE: Duration = Duration::from_secs(60);
+const PATIENCE: Duration = Duration::from_secs(30);
 
 /// What is compared: the special streams, then those of a seed.
 pub struct Trial {
@@ -19,7 +19,10 @@ pub struct Trial {
     pub seed: u64,
     pub streams: usize,
     pub folder: PathBuf,
-    pub stop_at_first: bool,
+    /// After so many differences no further stream is tried.
+    pub most_differences: usize,
+    /// Whether the special streams are left out, but for 01's sample.
+    pub short: bool,
 }
 
 /// What came of it. `differences` says where each difference is kept.
@@ -37,7 +40,7 @@ pub struct Stream {
 }
 
 pub fn run(trial: &Trial) -> Result {
-    let specials = if trial.stop_at_first { vec![special::sample()] } else { special::streams(trial.seed) };
+    let specials = if trial.short { vec![special::sample()] } else { special::streams(trial.seed) };
     let total = specials.len() + trial.streams;
     let next = AtomicUsize::new(0);
     let stop = AtomicBool::new(false);
@@ -59,8 +62,9 @@ pub fn run(trial: &Trial) -> Result {
                     }
                 };
                 let (reached, difference) = try_one(trial, worker, stream);
-                stop.fetch_or(trial.stop_at_first && difference.is_some(), Ordering::Relaxed);
-                add(&mut result.lock().unwrap(), reached, difference);
+                let mut result = result.lock().unwrap();
+                add(&mut result, reached, difference);
+                stop.store(result.differences.len() >= trial.most_differences, Ordering::Relaxed);
             });
         }
     });

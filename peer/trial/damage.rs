@@ -105,12 +105,20 @@ fn select_of_length(length: usize) -> Vec<u8> {
     encode::record(20, body)
 }
 
-/// A record of exactly 1,024 bytes, which is read.
+/// Zeros after some bytes, as a record.
+fn with_zeros(kind: usize, first: &[u8], zeros: usize) -> Vec<u8> {
+    encode::record(kind, [first, &vec![0; zeros]].concat())
+}
+
+/// A record of 1,024 bytes, or as near as its kind comes to that; its lists are the longest that can be read.
 pub fn longest(random: &mut Random) -> Vec<u8> {
-    match random.below(4) {
+    match random.below(7) {
         0 => encode::labels(&(0..512).collect::<Vec<u32>>()),
-        1 => encode::record(2, [vec![254, 0, 1, 0, 0, 0, 0, 0], vec![0; 4 * 254]].concat()),
-        2 => encode::record(19, [vec![0, 0, 1, 0, 7, 0, 0, 0, 255, 0, 253, 0], vec![0; 4 * 253]].concat()),
+        1 => with_zeros(2, &[254, 0, 1, 0, 0, 0, 0, 0], 4 * 254),
+        2 => with_zeros(16, &[0, 0, 1, 0, 169, 0], 6 * 169),
+        3 => with_zeros(17, &[0, 0, 1, 0, 101, 0], 10 * 101),
+        4 => with_zeros(18, &[0, 0, 1, 0, 166, 0], 6 * 166 + 2 + 10 * 2),
+        5 => with_zeros(19, &[0, 0, 1, 0, 7, 0, 0, 0, 255, 0, 253, 0], 4 * 253),
         _ => select_of_length(1024),
     }
 }
@@ -137,8 +145,8 @@ pub fn bad_rows(random: &mut Random, description: &Description) -> Records {
         row
     };
     match random.below(8) {
-        0 => vec![encode::row(random.pick(&[0, relations + 1, 65535]), level, &row)],
-        1 => vec![encode::row(number, random.pick(&[levels, levels + 1, 255, 65535]).max(levels), &row)],
+        0 => vec![encode::row(random.pick(&[0, relations + 1, 256 + number, 65535]), level, &row)],
+        1 => vec![encode::row(number, random.pick(&[levels, levels + 1, 255, 256 + level, 65535]).max(levels), &row)],
         2 => vec![encode::row(number, level, &vec![NOTHING; random.pick(&[0, row.len() - 1, row.len() + 1, 170])])],
         3 => vec![encode::row(number, level, &vec![Cell { value: 1, class: random.pick(&[256, 257, 511, 65535]) }; row.len()])],
         4 => (0..relation.rows + 1).map(|place| encode::row(number, level, &used(place as u32 + 1))).collect(),

@@ -120,7 +120,8 @@ fn sixteen(random: &mut Random) -> Vec<u32> {
 
 /// Exactly 8,192 cells.
 pub fn full(random: &mut Random) -> Description {
-    let (levels, relations, columns, rows) = random.pick(&[(16, 8, 8, 8), (16, 1, 8, 64), (16, 8, 1, 64), (2, 8, 8, 64), (4, 8, 4, 64), (8, 4, 4, 64)]);
+    let (levels, relations, columns, rows) =
+        random.pick(&[(16, 8, 8, 8), (16, 1, 8, 64), (16, 8, 1, 64), (2, 8, 8, 64), (4, 8, 4, 64), (8, 4, 4, 64)]);
     let mut labels = sixteen(random);
     if levels < 16 {
         labels = (0..levels).collect();
@@ -185,16 +186,20 @@ fn one_cell_too_many(random: &mut Random) -> Description {
 pub fn unsound(random: &mut Random) -> Description {
     let mut description = small(random);
     let levels = description.labels.len();
-    match random.below(20) {
+    match random.below(21) {
         0 => description.labels.clear(),
         1 => description = with_levels(random, 17),
         2 => description = with_label(random, 4096),
         3 => description.labels[levels - 1] = description.labels[0],
         4 => description.relations.clear(),
         5 => add_relations(random, &mut description, 9),
+        9 => {
+            let count = random.pick(&[10, 16, 256, 257, 258]);
+            add_relations(random, &mut description, count);
+        }
         6 => description = one_cell_too_many(random),
         7 => {
-            let count = random.between(17, 40);
+            let count = random.pick(&[17, 18, 32, 257, 259, 300]);
             description = with_levels(random, count);
         }
         8 => description.labels[levels - 1] = random.between(4096, 65535) as u32,
@@ -220,14 +225,14 @@ fn spoil_relation(random: &mut Random, description: &mut Description) {
         2 => relation.ranges = vec![(low, low); random.between(9, 254)],
         3 => relation.rows = 0,
         4 => relation.rows = 65,
-        5 => relation.rows = random.pick(&[65, 66, 256, 65535]),
+        5 => relation.rows = random.pick(&[65, 66, 256, 258, 65535]),
         6 | 7 => relation.ranges[column] = (low, high),
-        8 => relation.ranges[column].0 = random.pick(&[levels, levels + 1, 255]),
-        9 => relation.ranges[column].1 = random.pick(&[levels, levels + 1, 255]),
+        8 => relation.ranges[column].0 = random.pick(&[levels, levels + 1, 255, 256]),
+        9 => relation.ranges[column].1 = random.pick(&[levels, levels + 1, 255, 256]),
         10 => (relation.foreign, relation.refers) = (1, place.max(1)),
-        11 => (relation.foreign, relation.refers) = (random.pick(&[columns + 1, columns + 2, 255]), place.max(1)),
+        11 => (relation.foreign, relation.refers) = (random.pick(&[columns + 1, columns + 2, 255, 256, 258]), place.max(1)),
         12 => (relation.foreign, relation.refers) = (columns.max(2), place + 1),
-        13 => (relation.foreign, relation.refers) = (columns.max(2), place + random.between(2, 4)),
+        13 => (relation.foreign, relation.refers) = (columns.max(2), random.pick(&[place + 2, place + 3, 256, 257])),
         14 => (relation.foreign, relation.refers) = (0, random.between(1, 3)),
         _ => (relation.foreign, relation.refers) = (random.between(1, 3), 0),
     }

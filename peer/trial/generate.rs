@@ -145,7 +145,7 @@ fn unsound(random: &mut Random) -> Vec<u8> {
 fn not_legal(random: &mut Random) -> Vec<u8> {
     let (description, placed) = match random.below(10) {
         0 => illegal::another_entity(random),
-        1 => illegal::by_hand(random),
+        1..=3 => illegal::by_hand(random),
         _ => {
             let description = descriptions::small(random);
             let mut placed = illegal::rows_of(&rows::rich(random, &description));
@@ -189,8 +189,7 @@ fn bad_rows(random: &mut Random) -> Vec<u8> {
 /// Very many statements on small tables: a stream of at least so many bytes.
 pub fn long(seed: u64, bytes: usize) -> Vec<u8> {
     let random = &mut Random::new(seed, u64::MAX);
-    let mut description = descriptions::small(random);
-    description.relations.truncate(2);
+    let description = descriptions::referring(random);
     let mut stream = encode::description(&description).concat();
     let mut tables = Tables::empty(&description);
     while stream.len() < bytes {

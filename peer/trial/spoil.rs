@@ -8,12 +8,12 @@ use crate::register::Statement;
 /// Puts one wrong field into a statement.
 pub fn spoil(random: &mut Random, description: &Description, statement: &mut Statement) {
     let levels = description.labels.len();
-    let no_level = random.pick(&[levels, levels + 1, 16, 255, 65535]).max(levels);
+    let no_level = random.pick(&[levels, levels + 1, 16, 255, 256, 257, 65535]).max(levels);
     match random.below(6) {
         0 => *level_of(statement) = no_level,
         1 => {
             let relations = description.relations.len();
-            *relation_of(statement) = random.pick(&[0, relations + 1, relations + 2, 65535]);
+            *relation_of(statement) = random.pick(&[0, relations + 1, relations + 2, 257, 65535]);
         }
         _ => spoil_list(random, description, statement, no_level),
     }
@@ -42,7 +42,7 @@ fn relation_of(statement: &mut Statement) -> &mut usize {
 fn spoil_list(random: &mut Random, description: &Description, statement: &mut Statement, no_level: usize) {
     let relation = *relation_of(statement);
     let columns = if description.has_relation(relation) { description.relation(relation).columns() } else { 1 };
-    let no_column = random.pick(&[0, columns + 1, columns + 2, 65535]);
+    let no_column = random.pick(&[0, columns + 1, columns + 2, 256 + columns, 65535]);
     match statement {
         Statement::Insert(insert) => match random.below(4) {
             0 => insert.listed.push((no_column, 1)),
@@ -91,10 +91,10 @@ fn spoil_conditions(random: &mut Random, columns: usize, no_column: usize, no_le
             return;
         }
         1 => Condition { column: no_column, ..sound },
-        2 => Condition { mark: random.pick(&[2, 255, 65535]), ..sound },
-        3 => Condition { test: random.pick(&[0, 6, 7, 65535]), ..sound },
+        2 => Condition { mark: random.pick(&[2, 255, 256, 257, 65535]), ..sound },
+        3 => Condition { test: random.pick(&[0, 6, 7, 257, 65535]), ..sound },
         4 => Condition { test: random.between(1, 4), constant: 0, ..sound },
-        5 => Condition { mark: 1, test: random.between(1, 4), constant: random.pick(&[no_level as u32, 65536, 255]), ..sound },
+        5 => Condition { mark: 1, test: random.between(1, 4), constant: random.pick(&[no_level as u32, 255, 256, 65536]), ..sound },
         6 => Condition { test: 5, constant: 1, ..sound },
         _ => Condition { mark: 1, test: 5, constant: random.pick(&[1, 255, 65536]), ..sound },
     };
