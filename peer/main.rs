@@ -42,15 +42,21 @@ fn main() -> ExitCode {
     }
 }
 
-/// `mlrun`, and where asked a line for each name that was reached.
+/// `mlrun`, and where asked a line for each name that was reached. A read or write that the system refuses is status 1.
 fn run(tell: bool) -> Result<bool, String> {
     let mut input = Vec::new();
-    std::io::stdin().read_to_end(&mut input).map_err(|error| format!("standard input: {error}"))?;
+    if let Err(error) = std::io::stdin().read_to_end(&mut input) {
+        eprintln!("peer: standard input: {error}");
+        return Ok(false);
+    }
     if tell {
         reached::begin();
     }
     let output = register::program::run(&input);
-    std::io::stdout().write_all(output.as_bytes()).map_err(|error| format!("standard output: {error}"))?;
+    if let Err(error) = std::io::stdout().write_all(output.as_bytes()).and_then(|()| std::io::stdout().flush()) {
+        eprintln!("peer: standard output: {error}");
+        return Ok(false);
+    }
     for (name, count) in reached::end() {
         eprintln!("{count:>9}  {name}");
     }
@@ -88,7 +94,8 @@ fn compared(trial: &Trial) -> Result<bool, String> {
     let claims = worked::claims();
     let mut wrong: Vec<String> = result.differences.clone();
     wrong.extend(claims.iter().filter(|(_, holds)| !holds).map(|(name, _)| format!("the peer itself: {name} of 01 does not hold")));
-    let mut tried = result.compared + claims.len();
+    wrong.extend(compare::refused_by_the_system(trial));
+    let mut tried = result.compared + claims.len() + 2;
     if result.differences.len() < trial.most_differences {
         let (lines, missing) = list::report(&result.reached);
         println!("{}", lines.join("\n"));

@@ -4,9 +4,10 @@ use super::{generate, special};
 use crate::reached::{self, Counts};
 use crate::register::program;
 use std::fs::{self, File};
+use std::io::Write;
 use std::path::{Path, PathBuf};
-use std::process::{Command, Stdio};
-use std::sync::atomic::{AtomicBool, AtomicUsize, Ordering};
+use std::process::{Child, Command, Stdio};
+use std::sync::atomic::{AtomicUsize, Ordering};
 use std::sync::Mutex;
 use std::time::{Duration, Instant};
 
@@ -26,7 +27,7 @@ pub struct Trial {
 }
 
 /// What came of it. `differences` says where each difference is kept.
-pub struct Result {
+pub struct Findings {
     pub compared: usize,
     pub differences: Vec<String>,
     pub reached: Counts,
@@ -37,45 +38,44 @@ pub struct Stream {
     pub name: String,
     pub bytes: Vec<u8>,
     pub printed: Option<&'static str>,
+    /// Whether the other program is given it through a pipe, a few bytes at a time.
+    pub in_pieces: bool,
 }
 
-pub fn run(trial: &Trial) -> Result {
+pub fn run(trial: &Trial) -> Findings {
     let specials = if trial.short { vec![special::sample()] } else { special::streams(trial.seed) };
-    let total = specials.len() + trial.streams;
     let next = AtomicUsize::new(0);
-    let stop = AtomicBool::new(false);
-    let result = Mutex::new(Result { compared: 0, differences: Vec::new(), reached: Counts::new() });
+    let result = Mutex::new(Findings { compared: 0, differences: Vec::new(), reached: Counts::new() });
     std::thread::scope(|scope| {
         for worker in 0..2 {
-            let (specials, next, stop, result) = (&specials, &next, &stop, &result);
-            scope.spawn(move || loop {
-                let place = next.fetch_add(1, Ordering::Relaxed);
-                if place >= total || stop.load(Ordering::Relaxed) {
-                    return;
-                }
-                let made;
-                let stream = match specials.get(place) {
-                    Some(special) => special,
-                    None => {
-                        made = seeded(trial.seed, place - specials.len());
-                        &made
-                    }
-                };
-                let (reached, difference) = try_one(trial, worker, stream);
-                let mut result = result.lock().unwrap();
-                add(&mut result, reached, difference);
-                stop.store(result.differences.len() >= trial.most_differences, Ordering::Relaxed);
-            });
+            let (specials, next, result) = (&specials, &next, &result);
+            scope.spawn(move || work(trial, worker, specials, next, result));
         }
     });
     result.into_inner().unwrap()
 }
 
-fn seeded(seed: u64, number: usize) -> Stream {
-    Stream { name: format!("{seed}-{number}"), bytes: generate::stream(seed, number as u64), printed: None }
+/// What one of two threads does: it takes the next stream, tries it and adds what came of it.
+fn work(trial: &Trial, worker: usize, specials: &[Stream], next: &AtomicUsize, result: &Mutex<Findings>) {
+    loop {
+        let place = next.fetch_add(1, Ordering::Relaxed);
+        let enough = result.lock().unwrap().differences.len() >= trial.most_differences;
+        if enough || place >= specials.len() + trial.streams {
+            return;
+        }
+        let (reached, difference) = match specials.get(place) {
+            Some(special) => try_one(trial, worker, special),
+            None => try_one(trial, worker, &seeded(trial.seed, place - specials.len())),
+        };
+        add(&mut result.lock().unwrap(), reached, difference);
+    }
 }
 
-fn add(result: &mut Result, reached: Counts, difference: Option<String>) {
+fn seeded(seed: u64, number: usize) -> Stream {
+    Stream { name: format!("{seed}-{number}"), bytes: generate::stream(seed, number as u64), printed: None, in_pieces: false }
+}
+
+fn add(result: &mut Findings, reached: Counts, difference: Option<String>) {
     result.compared += 1;
     result.differences.extend(difference);
     for (name, count) in reached {
@@ -88,7 +88,7 @@ fn try_one(trial: &Trial, worker: usize, stream: &Stream) -> (Counts, Option<Str
     reached::begin();
     let ours = program::run(&stream.bytes);
     let reached = reached::end();
-    let theirs = other(trial, worker, &stream.bytes);
+    let theirs = other(trial, worker, stream);
     let as_printed = stream.printed.is_none_or(|printed| printed == ours);
     let difference = match &theirs {
         Ok(theirs) if theirs == ours.as_bytes() && as_printed => return (reached, None),
@@ -114,14 +114,20 @@ fn first_difference(ours: &[u8], theirs: &[u8]) -> usize {
     1 + ours[..same].iter().filter(|&&byte| byte == b'\n').count()
 }
 
-/// What the other program prints. Files stand for its input and output, so that no pipe can fill up.
-fn other(trial: &Trial, worker: usize, bytes: &[u8]) -> std::result::Result<Vec<u8>, String> {
+/// What the other program prints. Files stand for its input and output, so that no pipe can fill up, but for a stream in pieces.
+fn other(trial: &Trial, worker: usize, stream: &Stream) -> Result<Vec<u8>, String> {
     let (input, output) = (trial.folder.join(format!("input{worker}")), trial.folder.join(format!("output{worker}")));
     let say = |what: &str, error: std::io::Error| format!("{what}: {error}");
-    fs::write(&input, bytes).map_err(|error| say("the stream can't be written", error))?;
+    fs::write(&input, &stream.bytes).map_err(|error| say("the stream can't be written", error))?;
     let from = File::open(&input).map_err(|error| say("the stream can't be read", error))?;
     let to = File::create(&output).map_err(|error| say("the output can't be written", error))?;
-    let status = finish(&trial.program, from, to)?;
+    let status = if stream.in_pieces {
+        let mut child = start(&trial.program, Stdio::piped(), to)?;
+        write_pieces(&mut child, &stream.bytes);
+        finish(child)?
+    } else {
+        finish(start(&trial.program, Stdio::from(from), to)?)?
+    };
     let printed = fs::read(&output).map_err(|error| say("the output can't be read", error))?;
     match status {
         0 => Ok(printed),
@@ -129,11 +135,26 @@ fn other(trial: &Trial, worker: usize, bytes: &[u8]) -> std::result::Result<Vec<
     }
 }
 
-/// Starts the program and waits for its end; one that takes too long is ended.
-fn finish(program: &[String], from: File, to: File) -> std::result::Result<i32, String> {
+fn start(program: &[String], from: Stdio, to: File) -> Result<Child, String> {
     let mut command = Command::new(&program[0]);
-    command.args(&program[1..]).stdin(Stdio::from(from)).stdout(Stdio::from(to)).stderr(Stdio::null());
-    let mut child = command.spawn().map_err(|error| format!("{} can't be started: {error}", program[0]))?;
+    command.args(&program[1..]).stdin(from).stdout(Stdio::from(to)).stderr(Stdio::null());
+    command.spawn().map_err(|error| format!("{} can't be started: {error}", program[0]))
+}
+
+/// Writes three bytes at a time, with a pause, so that the program reads records in pieces. It may end before it has read everything.
+fn write_pieces(child: &mut Child, bytes: &[u8]) {
+    if let Some(mut pipe) = child.stdin.take() {
+        for piece in bytes.chunks(3) {
+            if pipe.write_all(piece).is_err() {
+                return;
+            }
+            std::thread::sleep(Duration::from_micros(200));
+        }
+    }
+}
+
+/// Waits for the program's end and gives its status; one that takes too long is ended.
+fn finish(mut child: Child) -> Result<i32, String> {
     let begun = Instant::now();
     loop {
         match child.try_wait() {
@@ -147,6 +168,27 @@ fn finish(program: &[String], from: File, to: File) -> std::result::Result<i32, 
             Err(error) => return Err(format!("the program can't be waited for: {error}")),
         }
     }
+}
+
+/// What a program does wrong where the system refuses a read or a write: it must end with status 1, and have written nothing after a read.
+pub fn refused_by_the_system(trial: &Trial) -> Vec<String> {
+    let (input, output) = (trial.folder.join("input"), trial.folder.join("output"));
+    let status = |from: &Path, to: &Path| -> Result<i32, String> {
+        let open = |path: &Path, file: std::io::Result<File>| file.map_err(|error| format!("{}: {error}", path.display()));
+        let (from, to) = (open(from, File::open(from))?, open(to, File::create(to))?);
+        finish(start(&trial.program, Stdio::from(from), to)?)
+    };
+    let mut wrong = Vec::new();
+    match status(Path::new("/"), &output) {
+        Ok(1) if fs::read(&output).is_ok_and(|printed| printed.is_empty()) => {}
+        other => wrong.push(format!("input that can't be read: status {other:?}, or something was written")),
+    }
+    let _ = fs::write(&input, special::sample().bytes);
+    match status(&input, Path::new("/dev/full")) {
+        Ok(1) => {}
+        other => wrong.push(format!("output that can't be written: status {other:?}")),
+    }
+    wrong
 }
 
 /// What the streams of a seed reach.

@@ -17,14 +17,16 @@ const LONG: usize = 3_000_000;
 pub fn sample() -> Stream {
     let digits: Vec<u32> = SAMPLE.chars().filter_map(|digit| digit.to_digit(16)).collect();
     let bytes = digits.chunks(2).map(|pair| (16 * pair[0] + pair[1]) as u8).collect();
-    Stream { name: "sample".to_string(), bytes, printed: Some(PRINTED) }
+    Stream { name: "sample".to_string(), bytes, printed: Some(PRINTED), in_pieces: false }
 }
 
-/// The long stream first, since it takes longest; 01's sample; no input; every prefix of some streams; bytes of chance.
+/// The long stream first, since it takes longest; 01's sample; no input; some streams in pieces, and every prefix of each;
+/// bytes of chance.
 pub fn streams(seed: u64) -> Vec<Stream> {
-    let plain = |name: String, bytes: Vec<u8>| Stream { name, bytes, printed: None };
+    let plain = |name: String, bytes: Vec<u8>| Stream { name, bytes, printed: None, in_pieces: false };
     let mut streams = vec![plain("long".to_string(), generate::long(seed, LONG)), sample(), plain("empty".to_string(), Vec::new())];
     for (number, whole) in to_be_cut(seed).into_iter().enumerate() {
+        streams.push(Stream { in_pieces: true, ..plain(format!("pieces-{number}"), whole.clone()) });
         streams.extend((0..=whole.len()).map(|length| plain(format!("prefix-{number}-{length}"), whole[..length].to_vec())));
     }
     for number in 0..100 {
