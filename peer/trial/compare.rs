@@ -72,7 +72,7 @@ fn work(trial: &Trial, worker: usize, specials: &[Stream], next: &AtomicUsize, r
 }
 
 fn seeded(seed: u64, number: usize) -> Stream {
-    Stream { name: format!("{seed}-{number}"), bytes: generate::stream(seed, number as u64), printed: None, in_pieces: false }
+    Stream { name: format!("seed-{seed}-stream-{number}"), bytes: generate::stream(seed, number as u64), printed: None, in_pieces: false }
 }
 
 fn add(result: &mut Findings, reached: Counts, difference: Option<String>) {
@@ -89,7 +89,7 @@ fn try_one(trial: &Trial, worker: usize, stream: &Stream) -> (Counts, Option<Str
     let ours = program::run(&stream.bytes);
     let reached = reached::end();
     let theirs = other(trial, worker, stream);
-    let as_printed = stream.printed.is_none_or(|printed| printed == ours);
+    let as_printed = stream.printed.map_or(true, |printed| printed == ours);
     let difference = match &theirs {
         Ok(theirs) if theirs == ours.as_bytes() && as_printed => return (reached, None),
         Ok(_) if !as_printed => "the peer does not print what 01 prints".to_string(),
@@ -105,7 +105,7 @@ fn try_one(trial: &Trial, worker: usize, stream: &Stream) -> (Counts, Option<Str
         Ok(()) => format!("kept as {}.bin, with .peer and .mlrun", kept.display()),
         Err(error) => format!("could not be kept: {error}"),
     };
-    (reached, Some(format!("stream {}: {difference}; {place}", stream.name)))
+    (reached, Some(format!("{}: {difference}; {place}", stream.name)))
 }
 
 /// The number, from 1, of the first line that differs.

@@ -2,7 +2,7 @@
 
 use crate::register::conditions::Condition;
 use crate::register::description::{Description, Relation};
-use crate::register::tables::{Row, Tables};
+use crate::register::tables::Row;
 use crate::register::Statement;
 
 /// A record of any kind and body. A length that two bytes can't hold is cut down to them.
@@ -42,11 +42,6 @@ pub fn row(relation: usize, level: usize, row: &Row) -> Vec<u8> {
     let mut body = [two(relation), two(level)].concat();
     body.extend(row.iter().flat_map(|cell| [four(cell.value), two(cell.class)].concat()));
     record(3, body)
-}
-
-/// The rows of tables, by relation, level and position.
-pub fn rows(tables: &Tables) -> Vec<Vec<u8>> {
-    tables.all_rows().map(|(relation, level, cells)| row(relation, level, cells)).collect()
 }
 
 fn pairs(list: &[(usize, u32)]) -> Vec<u8> {

@@ -1,6 +1,7 @@
 //! Streams, each from a seed and its number alone.
 
 use super::damage::{self, Records};
+use super::illegal::Rows;
 use super::random::Random;
 use super::statements::{self, View};
 use super::{descriptions, encode, illegal, rows, spoil};
@@ -68,52 +69,54 @@ fn with_tables(random: &mut Random, description: &Description) -> Records {
     if random.chance(20) {
         rows::take_classes(random, description, &mut tables);
     }
-    let mut records = encode::description(description);
-    let mut placed = encode::rows(&tables);
+    let mut rows = rows_in_any_order(random, &tables);
     if random.chance(10) {
         let relation = random.between(1, description.relations.len());
-        let row = vec![NOTHING; description.relation(relation).columns()];
         let level = random.below(description.labels.len());
         if tables.lowest_empty(relation, level).is_some() {
-            placed.insert(0, encode::row(relation, level, &row));
+            rows.insert(0, (relation, level, vec![NOTHING; description.relation(relation).columns()]));
         }
     }
-    records.extend(placed);
-    let tables = rows_moved_up(description, &tables);
     let count = random.between(5, 40);
-    records.extend(statements_and_show(random, description, &tables, count, 15));
-    records
+    on_rows(random, description, &rows, count, 15)
 }
 
-/// Tables as they stand once their rows have been placed one after the other: without empty rows between them.
-fn rows_moved_up(description: &Description, tables: &Tables) -> Tables {
-    let mut moved = Tables::empty(description);
-    for (relation, level, row) in tables.all_rows() {
-        if let Some(place) = moved.lowest_empty(relation, level) {
-            moved.put(relation, level, place, row.clone());
+/// The rows of tables, now and then in no order.
+fn rows_in_any_order(random: &mut Random, tables: &Tables) -> Rows {
+    let mut rows = illegal::rows_of(tables);
+    if random.chance(40) {
+        random.shuffle(&mut rows);
+    }
+    rows
+}
+
+/// A description, rows, and statements on the tables that they make once they have been placed one after the other.
+fn on_rows(random: &mut Random, description: &Description, rows: &Rows, count: usize, spoilt: usize) -> Records {
+    let mut records = encode::description(description);
+    let mut tables = Tables::empty(description);
+    for (relation, level, row) in rows {
+        records.push(encode::row(*relation, *level, row));
+        if let Some(place) = tables.lowest_empty(*relation, *level) {
+            tables.put(*relation, *level, place, row.clone());
         }
     }
-    moved
+    records.extend(statements_and_show(random, description, &tables, count, spoilt));
+    records
 }
 
 /// References at several levels, and keys that several entities have.
 fn referring(random: &mut Random) -> Vec<u8> {
     let description = descriptions::referring(random);
-    let tables = rows_moved_up(&description, &rows::rich(random, &description));
-    let mut records = encode::description(&description);
-    records.extend(encode::rows(&tables));
+    let tables = rows::rich(random, &description);
+    let rows = rows_in_any_order(random, &tables);
     let count = random.between(5, 30);
-    records.extend(statements_and_show(random, &description, &tables, count, 3));
-    records.concat()
+    on_rows(random, &description, &rows, count, 3).concat()
 }
 
 fn full(random: &mut Random) -> Vec<u8> {
     let description = descriptions::full(random);
-    let tables = rows::full(random, &description);
-    let mut records = encode::description(&description);
-    records.extend(encode::rows(&tables));
-    records.extend(statements_and_show(random, &description, &tables, 12, 5));
-    records.concat()
+    let rows = illegal::rows_of(&rows::full(random, &description));
+    on_rows(random, &description, &rows, 12, 5).concat()
 }
 
 fn at_limit(random: &mut Random) -> Vec<u8> {
@@ -153,16 +156,7 @@ fn not_legal(random: &mut Random) -> Vec<u8> {
             (description, placed)
         }
     };
-    let mut records = encode::description(&description);
-    records.extend(placed.iter().map(|(relation, level, row)| encode::row(*relation, *level, row)));
-    let mut tables = Tables::empty(&description);
-    for (relation, level, row) in placed {
-        if let Some(place) = tables.lowest_empty(relation, level) {
-            tables.put(relation, level, place, row);
-        }
-    }
-    records.extend(statements_and_show(random, &description, &tables, 6, 20));
-    records.concat()
+    on_rows(random, &description, &placed, 6, 20).concat()
 }
 
 /// A stream with a record of exactly 1,024 bytes.
