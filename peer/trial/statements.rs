@@ -91,6 +91,10 @@ pub fn insert_at(random: &mut Random, view: &View, relation: usize, level: usize
     if random.chance(60) && view.tables.row_with_key(relation, level, key).is_some() {
         key = random.between(1, 9) as u32;
     }
+    let rows = view.description.relation(relation).rows;
+    if rows > 4 && random.chance(60) {
+        key = (rows + random.below(3)) as u32;
+    }
     if random.chance(5) {
         key = random.pick(&[key + 256, key + 65536, key << 24, u32::MAX]);
     }
