@@ -54,6 +54,9 @@ pub fn call(description: &Description, tables: &Tables, statement: &Statement) -
     let broken = legal::broken_rules(description, tables);
     if !broken.is_empty() {
         note_broken(&broken, &faults);
+        if let ([rule], true) = (broken.as_slice(), reached::on()) {
+            legal::note_ways(description, tables, rule);
+        }
         return Outcome::Refused(3);
     }
     if !faults.is_empty() {

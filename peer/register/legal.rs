@@ -2,6 +2,7 @@
 
 use super::description::Description;
 use super::tables::*;
+use crate::reached;
 use std::collections::{BTreeMap, BTreeSet};
 
 type Rule = fn(&Description, &Tables) -> bool;
@@ -139,4 +140,37 @@ fn borrowed_references_name_one_entity(description: &Description, tables: &Table
             _ => true,
         }
     })
+}
+
+/// Notes more of a rule that is broken alone, where there are several ways to break it.
+pub fn note_ways(description: &Description, tables: &Tables, rule: &str) {
+    for (relation, level, row) in tables.all_rows() {
+        if rule == "two rows with one key" {
+            let same_key = tables.rows(relation, level).filter(|other| other[0].value == row[0].value);
+            let entities: Vec<Entity> = same_key.map(entity).collect();
+            if entities.len() > 1 {
+                let one = entities.iter().all(|who| *who == entities[0]);
+                reached::note(if one { "3, two rows of one entity" } else { "3, two entities with one key" });
+            }
+        }
+        if rule == "a borrowed value that isn't lent" {
+            for column in (1..=row.len()).filter(|&column| description.above(level, cell(row, column).class)) {
+                note_loan(tables, relation, row, column);
+            }
+        }
+    }
+}
+
+/// Notes how the lender differs from a cell that a row above it holds.
+fn note_loan(tables: &Tables, relation: usize, row: &Row, column: usize) {
+    let here = cell(row, column);
+    let lender = tables.row_of(relation, here.class, entity(row)).map(|row| cell(row, column));
+    match lender {
+        _ if here.value == 0 => {}
+        None if column == 1 => reached::note("3, a key without a base row"),
+        None => reached::note("3, a value whose lender has no row"),
+        Some(there) if there == here => {}
+        Some(there) if there.value == here.value => reached::note("3, a value that its lender holds with another class"),
+        Some(_) => reached::note("3, a value that its lender does not hold"),
+    }
 }

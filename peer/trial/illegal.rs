@@ -64,7 +64,7 @@ pub fn another_entity(random: &mut Random) -> (Description, Rows) {
 pub fn by_hand(random: &mut Random) -> (Description, Rows) {
     let value = random.between(2, 9) as u32;
     let row = |key: (u32, usize), other: (u32, usize)| vec![Cell { value: key.0, class: key.1 }, Cell { value: other.0, class: other.1 }];
-    let rows = match random.below(8) {
+    let rows = match random.below(12) {
         0 => vec![(1, 1, row((7, 1), (0, 0)))],
         1 => vec![(1, 0, row((7, 0), (value, 0))), (1, 1, row((7, 0), (0, 0)))],
         2 => vec![(1, 0, row((0, 0), (value, 0)))],
@@ -72,6 +72,10 @@ pub fn by_hand(random: &mut Random) -> (Description, Rows) {
         4 => vec![(1, 0, row((7, 0), (value, 0))), (1, 1, row((7, 0), (value, 1))), (1, 2, row((7, 0), (value, 0))), (1, 2, row((7, 0), (value, 0)))],
         5 => vec![(1, 2, row((7, 2), (0, 2)))],
         6 => vec![(1, 2, row((7, 2), (value, 2)))],
+        7 => vec![(1, 0, row((7, 0), (value, 0))), (1, 1, row((7, 0), (value, 0))), (1, 1, row((7, 1), (0, 255)))],
+        8 => vec![(1, 0, row((7, 0), (value, 0))), (1, 1, row((7, 0), (value, 0))), (1, 2, row((7, 0), (value, 1)))],
+        9 => vec![(1, 0, row((7, 0), (value, 0))), (1, 1, row((7, 0), (value, 0))), (1, 2, row((7, 0), (value + 1, 1)))],
+        10 => vec![(1, 0, row((value, 0), (0, 0))), (2, 1, row((50, 1), (value, 1)))],
         _ => vec![(2, 0, row((7, 0), (value, 0)))],
     };
     (two_relations(), rows)

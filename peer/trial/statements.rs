@@ -74,6 +74,7 @@ fn value(random: &mut Random, view: &View, relation: usize, level: usize, column
     match random.below(20) {
         0 | 1 => 0,
         2 => random.next() as u32,
+        3..=12 => random.between(1, 3) as u32,
         _ => random.between(1, 9) as u32,
     }
 }
