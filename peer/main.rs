@@ -42,12 +42,11 @@ fn main() -> ExitCode {
     }
 }
 
-/// `mlrun`, and where asked a line for each name that was reached. A read or write that the system refuses is status 1.
+/// `mlrun`, and where asked a line for each name that was reached. A read that the system refuses counts as the end of the input.
 fn run(tell: bool) -> Result<bool, String> {
     let mut input = Vec::new();
     if let Err(error) = std::io::stdin().read_to_end(&mut input) {
         eprintln!("peer: standard input: {error}");
-        return Ok(false);
     }
     if tell {
         reached::begin();
@@ -55,7 +54,6 @@ fn run(tell: bool) -> Result<bool, String> {
     let output = register::program::run(&input);
     if let Err(error) = std::io::stdout().write_all(output.as_bytes()).and_then(|()| std::io::stdout().flush()) {
         eprintln!("peer: standard output: {error}");
-        return Ok(false);
     }
     for (name, count) in reached::end() {
         eprintln!("{count:>9}  {name}");

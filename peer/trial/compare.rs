@@ -170,7 +170,7 @@ fn finish(mut child: Child) -> Result<i32, String> {
     }
 }
 
-/// What a program does wrong where the system refuses a read or a write: it must end with status 1, and have written nothing after a read.
+/// What a program does wrong where the system refuses a read or a write: it must end with status 0, and have written nothing after a read.
 pub fn refused_by_the_system(trial: &Trial) -> Vec<String> {
     let (input, output) = (trial.folder.join("input"), trial.folder.join("output"));
     let status = |from: &Path, to: &Path| -> Result<i32, String> {
@@ -180,12 +180,12 @@ pub fn refused_by_the_system(trial: &Trial) -> Vec<String> {
     };
     let mut wrong = Vec::new();
     match status(Path::new("/"), &output) {
-        Ok(1) if fs::read(&output).is_ok_and(|printed| printed.is_empty()) => {}
+        Ok(0) if fs::read(&output).is_ok_and(|printed| printed.is_empty()) => {}
         other => wrong.push(format!("input that can't be read: status {other:?}, or something was written")),
     }
     let _ = fs::write(&input, special::sample().bytes);
     match status(&input, Path::new("/dev/full")) {
-        Ok(1) => {}
+        Ok(0) => {}
         other => wrong.push(format!("output that can't be written: status {other:?}")),
     }
     wrong
