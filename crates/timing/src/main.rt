@@ -6,9 +6,7 @@ ghost use Prim.Native.Nat.{_≤_};
 // values of four bytes each, and the classes.
 use model::Answer;
 use model::Description;
-use model::Fault;
 use model::Statement;
-use model::Verdict;
 use model::What;
 
 // The number of two bytes.
@@ -95,40 +93,9 @@ fn decode(bytes: &[u8], values: &mut [u32]) {
     }
 }
 
-fn number(verdict: Verdict) -> u64 {
-    match verdict {
-        Verdict::Legal => 0,
-        Verdict::Description => 1,
-        Verdict::Length => 2,
-        Verdict::Illegal => 3,
-    }
-}
-
-fn fault(fault: Fault) -> u64 {
-    match fault {
-        Fault::Description => 1,
-        Fault::Length => 2,
-        Fault::Illegal => 3,
-        Fault::Malformed => 4,
-        Fault::Unseen => 5,
-        Fault::Range => 6,
-        Fault::Absent => 7,
-        Fault::Several => 8,
-        Fault::Taken => 9,
-        Fault::KeyClass => 10,
-        Fault::Reference => 11,
-        Fault::Referred => 12,
-        Fault::Full => 13,
-        Fault::Short => 14,
-    }
-}
-
 // The number answered, and 100 times the count.
 fn told(answer: Answer) -> u64 {
-    match answer {
-        Answer::Done { count } => count as u64 * 100,
-        Answer::Refused(why) => fault(why),
-    }
+    numbers::count(answer) as u64 * 100 + numbers::number(answer) as u64
 }
 
 // Judges the same tables some times over; the last verdict's number.
@@ -136,7 +103,7 @@ fn judged(description: Description, values: &[u32], classes: &[u8], times: u32) 
     let mut last = 4;
     let mut left = times;
     while 0 < left {
-        last = number(register::judge(description, values, classes));
+        last = numbers::verdict(register::judge(description, values, classes)) as u64;
         left -= 1;
     }
     last

@@ -1,7 +1,6 @@
 // Has the judge judge tables with exactly one fault, of each kind, at the first and at the last place where it can stand, and the same
 // mended; descriptions on both sides of each limit; and buffers a cell too short and too long. What it must print is written from the scope.
 use model::Description;
-use model::Verdict;
 
 // Five levels with labels 0, 1, 2, 3, 259. Relation 1: three columns, two rows a level, ranges 0 to 4, of column 3 only 0 to 2.
 // Relation 2: a key and a reference to relation 1, two rows a level, ranges 0 to 4, of column 2 only 0 to 3. So 50 cells.
@@ -133,18 +132,12 @@ fn classes() -> [u8; 50] {
     ]
 }
 
-fn number(verdict: Verdict) -> u64 {
-    match verdict {
-        Verdict::Legal => 0,
-        Verdict::Description => 1,
-        Verdict::Length => 2,
-        Verdict::Illegal => 3,
-    }
-}
-
 fn say(description: Description, values: &[u32], classes: &[u8]) {
     io::write_all(1, b" ");
-    io::print_decimal(1, number(judge::judge(description, values, classes)));
+    io::print_decimal(
+        1,
+        numbers::verdict(judge::judge(description, values, classes)) as u64,
+    );
 }
 
 // A cell to be changed; place 50 is none.

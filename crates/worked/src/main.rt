@@ -3,7 +3,6 @@
 // written from the scope.
 use model::Answer;
 use model::Description;
-use model::Fault;
 use model::Statement;
 use model::What;
 
@@ -39,36 +38,10 @@ fn wrong() -> Description {
 
 // ---- printing
 
-fn number(fault: Fault) -> u64 {
-    match fault {
-        Fault::Description => 1,
-        Fault::Length => 2,
-        Fault::Illegal => 3,
-        Fault::Malformed => 4,
-        Fault::Unseen => 5,
-        Fault::Range => 6,
-        Fault::Absent => 7,
-        Fault::Several => 8,
-        Fault::Taken => 9,
-        Fault::KeyClass => 10,
-        Fault::Reference => 11,
-        Fault::Referred => 12,
-        Fault::Full => 13,
-        Fault::Short => 14,
-    }
-}
-
 fn tell(answer: Answer) {
-    match answer {
-        Answer::Done { count } => {
-            io::write_all(1, b"0 ");
-            io::print_decimal(1, count as u64);
-        }
-        Answer::Refused(fault) => {
-            io::print_decimal(1, number(fault));
-            io::write_all(1, b" 0");
-        }
-    }
+    io::print_decimal(1, numbers::number(answer) as u64);
+    io::write_all(1, b" ");
+    io::print_decimal(1, numbers::count(answer) as u64);
     io::write_all(1, b"\n");
 }
 
