@@ -6,7 +6,7 @@ use mathlib.Core.Path.{_≡_, sym, ap, _∙_}
 use mathlib.Core.List.{List}
 use denote.Ref.{now}
 use Rattle.stream.specs.declared.Stepped.{Stepped}
-use Rattle.stream.specs.Step.{Held, Turn}
+use Rattle.stream.specs.Step.{Turn}
 use Rattle.stream.specs.Facts.{Took}
 use Rattle.stream.proofs.step.Reads as step
 

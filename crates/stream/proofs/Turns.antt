@@ -3,7 +3,7 @@
 use Prim.Native.Nat.{ℕ, _<_, _≤_, min}
 use mathlib.Core.Path.{_≡_, refl, sym, ap, _∙_}
 use mathlib.Core.Bool.{Bool, true, false}
-use mathlib.Core.List.{List, [], _++_}
+use mathlib.Core.List.{List, _++_}
 use native.Mathlib.Omega.{arith}
 use lib.Dec.{eqb}
 use lib.ListN.{length, take, drop, replicate, length-take, take-append-drop}
@@ -29,7 +29,7 @@ use Rattle.lines.specs.Lines.{answerText}
 use Rattle.lines.specs.Written.{Wrote, written}
 use Rattle.register.specs.Calls.{request, outcome}
 use Rattle.stream.specs.declared.Stepped.{Stepped}
-use Rattle.stream.specs.Step.{Held, Turn, cellsOf, tables, keeping, describing, refuses, silent, labelsTurn, relationTurn, rowTurn, call, answered, statementTurn, turnOf, step}
+use Rattle.stream.specs.Step.{Turn, cellsOf, tables, keeping, describing, refuses, silent, labelsTurn, relationTurn, rowTurn, call, answered, statementTurn, turnOf, step}
 use Rattle.stream.specs.Facts.{holds, Took}
 use Rattle.stream.proofs.Parts.{take-least, drop-least, take-written, room-written}
 

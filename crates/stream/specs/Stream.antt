@@ -6,7 +6,7 @@ use lib.ListN.{length, take, drop, replicate}
 use Rattle.bounded.specs.Tests.{if_then_else_}
 use Rattle.records.specs.Record.{sizeOf}
 use Rattle.records.specs.Descriptions.{nothing}
-use Rattle.stream.specs.Step.{Held, Turn, step}
+use Rattle.stream.specs.Step.{Held, step}
 
 -- before the first record: room for every tables, all of it empty
 unfoldable pub start : Held

@@ -1,5 +1,5 @@
 use borrow.Author.Needs.{needs}
-use mathlib.Core.Path.{refl, sym, _∙_}
+use mathlib.Core.Path.{refl}
 use Rattle.stream.specs.Step.{refuses}
 use Rattle.stream.proofs.refuse.Statement.{statement}
 use Rattle.stream.proofs.refuse.Tie as tie

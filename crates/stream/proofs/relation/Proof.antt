@@ -1,5 +1,5 @@
 use borrow.Author.Needs.{needs}
-use mathlib.Core.Path.{refl, sym, _∙_}
+use mathlib.Core.Path.{sym, _∙_}
 use borrow.Author.Tests.{not-true, not-false}
 use Rattle.stream.proofs.Turns.{took-as, quiet, relation-refused, relation-taken}
 use Rattle.stream.proofs.relation.Statement.{statement}
