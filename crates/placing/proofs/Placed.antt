@@ -23,7 +23,7 @@ use Rattle.cells.specs.Layout.{Laid, Lent, InLevel}
 use Rattle.cells.specs.Changed.{holding, listedRow, withRow, changeLevel}
 use Rattle.change.specs.Facts.{Filled}
 use Rattle.change.proofs.Known.{in-level}
-use Rattle.placing.specs.Placing.{relation, level, rowOf, smallClasses, wellShaped, placeable, withPlaced, placed, Places}
+use Rattle.placing.specs.Placing.{relation, level, rowRead, smallClasses, wellShaped, placeable, withPlaced, placed, Places}
 
 -- ---- one row for another that has the same cells
 
@@ -127,18 +127,18 @@ module _ (d : Description) (bytes vs cs : List ℕ) {r l : ℕ} (x : r ≡ relat
                 place-full m = refused (asked-row ∙ le-ltb row (p .rows) m)
 
                 -- the row is stored
-                module _ {news owners : List ℕ} (F : Filled (p .columns) (λ k. rowOf bytes k .value) news)
-                    (G : Filled (p .columns) (λ k. rowOf bytes k .class) owners) where
-                  row-is : (k : ℕ) → 0 < k → k ≤ columnCount d r → listedRow news owners k ≡ rowOf bytes k
-                  unfolding listedRow rowOf
+                module _ {news owners : List ℕ} (F : Filled (p .columns) (λ k. rowRead bytes k .value) news)
+                    (G : Filled (p .columns) (λ k. rowRead bytes k .class) owners) where
+                  row-is : (k : ℕ) → 0 < k → k ≤ columnCount d r → listedRow news owners k ≡ rowRead bytes k
+                  unfolding listedRow rowRead
                   row-is k z m = ap₂ cell (F .right k z (rw (L .columns) m)) (G .right k z (rw (L .columns) m))
 
                   tables-are : changeLevel l (withRow (columnCount d r) r row (listedRow news owners)) S ≡ withPlaced d S bytes
                   unfolding withPlaced
                   tables-are =
                       rw (← x, ← y, ← q)
-                      (change-same l (withRow (columnCount d r) r row (listedRow news owners)) (withRow (columnCount d r) r row (rowOf bytes)) S
-                      (with-same (columnCount d r) r row (listedRow news owners) (rowOf bytes) row-is))
+                      (change-same l (withRow (columnCount d r) r row (listedRow news owners)) (withRow (columnCount d r) r row (rowRead bytes)) S
+                      (with-same (columnCount d r) r row (listedRow news owners) (rowRead bytes) row-is))
 
                   pub place-done : row < p .rows → {us ds : List ℕ}
                       → stateOf d (holding us ds) ≡ changeLevel l (withRow (columnCount d r) r row (listedRow news owners)) S

@@ -16,7 +16,7 @@ use Rattle.model.specs.Description.{sound, isRelation, isLevel, totalOf}
 use Rattle.model.specs.Buffers.{Buffers, fitting}
 use Rattle.model.proofs.Sound.{relation-r}
 use Rattle.records.specs.Bytes.{pair, quad}
-use Rattle.placing.specs.Placing.{rowOf, smallClasses}
+use Rattle.placing.specs.Placing.{rowRead, smallClasses}
 
 -- ---- the description and the buffers
 
@@ -71,10 +71,10 @@ module _ (bytes : List ℕ) where
 
   -- ---- the row
 
-  pub value-next : (k : ℕ) {x : ℕ} → x ≡ quad bytes (8 + 6 * k) → x ≡ rowOf bytes (k + 1) .value
-  unfolding rowOf
+  pub value-next : (k : ℕ) {x : ℕ} → x ≡ quad bytes (8 + 6 * k) → x ≡ rowRead bytes (k + 1) .value
+  unfolding rowRead
   value-next k e = rw add-one e
 
-  pub class-next : (k : ℕ) {x : ℕ} → x ≡ pair bytes (12 + 6 * k) → x ≡ rowOf bytes (k + 1) .class
-  unfolding rowOf
+  pub class-next : (k : ℕ) {x : ℕ} → x ≡ pair bytes (12 + 6 * k) → x ≡ rowRead bytes (k + 1) .class
+  unfolding rowRead
   class-next k e = rw add-one e

@@ -24,8 +24,8 @@ abbrev pub level : List ℕ → ℕ
 level bytes = pair bytes 6
 
 -- the row, by column
-unfoldable pub rowOf : List ℕ → Row
-rowOf bytes k = cell (quad bytes (8 + 6 * pred k)) (pair bytes (12 + 6 * pred k))
+unfoldable pub rowRead : List ℕ → Row
+rowRead bytes k = cell (quad bytes (8 + 6 * pred k)) (pair bytes (12 + 6 * pred k))
 
 -- no "class over 255" among the first n cells
 unfoldable pub smallClasses : ℕ → List ℕ → Bool
@@ -47,7 +47,7 @@ placeable d b bytes =
 unfoldable pub withPlaced : Description → State → List ℕ → State
 withPlaced d S bytes =
     changeLevel (level bytes)
-    (withRow (columnCount d (relation bytes)) (relation bytes) (lowestEmpty d (S (level bytes) .rows) (relation bytes)) (rowOf bytes))
+    (withRow (columnCount d (relation bytes)) (relation bytes) (lowestEmpty d (S (level bytes) .rows) (relation bytes)) (rowRead bytes))
     S
 
 -- what a record of kind 3 leaves in the buffers

@@ -12,7 +12,7 @@ ghost use Rattle.model.specs.Description.{sound, isLevel, isRelation};
 ghost use Rattle.model.specs.Buffers.{fitting};
 ghost use Rattle.cells.specs.Changed.{holding};
 ghost use Rattle.change.specs.Facts.{Filled};
-ghost use Rattle.placing.specs.Placing.{Places, rowOf, smallClasses};
+ghost use Rattle.placing.specs.Placing.{Places, rowRead, smallClasses};
 
 // The description is sound, and both buffers are as long as it says.
 fn fits(values: &[u32], classes: &[u8], description: Description) -> bool
@@ -59,7 +59,7 @@ fn small(bytes: &[u8], columns: usize) -> bool
 // The row's values, by column.
 fn news(bytes: &[u8], columns: usize) -> [u32; 9]
     requires { ⌜ columns ≤ 8 ⌝ }
-    ensures { λ r. ⌜ Filled columns (λ k. rowOf (now (bytes .entry)) k .value) r ⌝ }
+    ensures { λ r. ⌜ Filled columns (λ k. rowRead (now (bytes .entry)) k .value) r ⌝ }
 {
     let mut news = [0u32; 9];
     let mut column = 0;
@@ -75,7 +75,7 @@ fn news(bytes: &[u8], columns: usize) -> [u32; 9]
 fn owners(bytes: &[u8], columns: usize) -> [u8; 9]
     requires { ⌜ columns ≤ 8 ⌝ }
     requires { ⌜ smallClasses columns (now bytes) ≡ true ⌝ }
-    ensures { λ r. ⌜ Filled columns (λ k. rowOf (now (bytes .entry)) k .class) r ⌝ }
+    ensures { λ r. ⌜ Filled columns (λ k. rowRead (now (bytes .entry)) k .class) r ⌝ }
 {
     let mut owners = [255u8; 9];
     let mut column = 0;

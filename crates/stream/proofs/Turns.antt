@@ -9,14 +9,12 @@ use lib.Dec.{eqb}
 use lib.ListN.{length, take, drop, replicate, length-take, take-append-drop}
 use borrow.Author.Tests.{ne-eqb}
 use Rattle.bounded.proofs.Cases.{cases, and-false-right}
-use Rattle.bounded.proofs.Reflection.{of-true}
 use Rattle.model.specs.declared.Description.{Description}
 use Rattle.model.specs.declared.Statement.{Statement}
 use Rattle.model.specs.declared.Answer.{Answer}
 use Rattle.model.specs.Description.{columnCount, totalOf, sound}
 use Rattle.model.specs.Buffers.{Buffers, fitting}
 use Rattle.model.specs.Run.{Request, Outcome, run}
-use Rattle.model.proofs.Sound.{sound-r}
 use Rattle.cells.specs.Changed.{holding}
 use Rattle.records.specs.declared.Read.{Read}
 use Rattle.records.specs.declared.Read.the-variants as Reads
@@ -54,9 +52,6 @@ no-cells d s = rw s
 pub all-cells : (d : Description) → sound d ≡ true → cellsOf d ≡ totalOf d
 unfolding cellsOf
 all-cells d s = rw s
-
-pub few-cells : (d : Description) → sound d ≡ true → totalOf d ≤ 8192
-few-cells d s = of-true (sound-r d) s .total
 
 -- ---- records of kind 1 and 2
 

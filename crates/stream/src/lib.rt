@@ -7,7 +7,7 @@ use records::descriptions;
 use records::statement::statement;
 ghost use mathlib.Core.Path.{_≡_};
 ghost use mathlib.Core.List.{List};
-ghost use Prim.Native.Nat.{ℕ, _≤_, min};
+ghost use Prim.Native.Nat.{ℕ, min};
 ghost use Rattle.model.specs.Description.{columnCount};
 ghost use Rattle.model.specs.Run.{run};
 ghost use Rattle.register.specs.Calls.{request};
@@ -84,7 +84,7 @@ fn relation(
 
 // How many cells the tables take; a description that breaks a rule has none.
 fn extent(description: Description) -> usize
-    ensures { λ r. ⌜ (r ≡ cellsOf description) × (r ≤ 8192) ⌝ }
+    ensures { λ r. ⌜ r ≡ cellsOf description ⌝ }
 {
     if !describe::sound(description) {
         return 0;

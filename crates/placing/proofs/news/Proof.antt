@@ -5,13 +5,13 @@ use native.Mathlib.Omega.{arith}
 use borrow.Author.Needs.{needs}
 use Rattle.change.specs.Facts.{Filled}
 use Rattle.change.proofs.Numbers.{filled-none, filled-more, filled-end}
-use Rattle.placing.specs.Placing.{rowOf}
+use Rattle.placing.specs.Placing.{rowRead}
 use Rattle.placing.proofs.Tested.{value-next}
 use Rattle.placing.proofs.news.Statement.{statement}
 use Rattle.placing.proofs.news.Tie as tie
 
 abbrev Inv-loop : tie.InvT-loop
-Inv-loop bytes columns news₀ column₀ news column = (column ≤ columns) × Filled column (λ k. rowOf bytes k .value) news
+Inv-loop bytes columns news₀ column₀ news column = (column ≤ columns) × Filled column (λ k. rowRead bytes k .value) news
 
 abbrev μ-loop : tie.MeasureT-loop
 μ-loop bytes columns news₀ column₀ news column = columns - column

@@ -5,13 +5,13 @@ use native.Mathlib.Omega.{arith}
 use borrow.Author.Needs.{needs}
 use Rattle.change.specs.Facts.{Filled}
 use Rattle.change.proofs.Numbers.{filled-none, filled-more, filled-end}
-use Rattle.placing.specs.Placing.{rowOf}
+use Rattle.placing.specs.Placing.{rowRead}
 use Rattle.placing.proofs.Tested.{small-at, class-next}
 use Rattle.placing.proofs.owners.Statement.{statement}
 use Rattle.placing.proofs.owners.Tie as tie
 
 abbrev Inv-loop : tie.InvT-loop
-Inv-loop bytes columns owners₀ column₀ owners column = (column ≤ columns) × Filled column (λ k. rowOf bytes k .class) owners
+Inv-loop bytes columns owners₀ column₀ owners column = (column ≤ columns) × Filled column (λ k. rowRead bytes k .class) owners
 
 abbrev μ-loop : tie.MeasureT-loop
 μ-loop bytes columns owners₀ column₀ owners column = columns - column

@@ -53,7 +53,7 @@ same-length-5 c = search needs
 returns : tie.Need-returns
 returns c =
     let r = c .before .before .before .before .before .before .before .before .before .before .before .before .before .before .before in
-    answer-took _ _ _ _ _ _ (c .before .before .before .before .before .before .before .before .before .before .before .before .before .before .before .before .before .before .before .before .before .before .extent .ensures .0) (c .before .before .before .before .before .before .before .before .before .before .before .before .before .before .before .before .before .before .before .before .before .least .ensures) (c .before .before .before .before .before .before .before .before .before .before .before .before .before .before .before .before .before .before .before .before .least2 .ensures) (r .run .ensures) (c .before .before .before .before .before .before .columns .ensures) (c .before .before .answer .ensures)
+    answer-took _ _ _ _ _ _ (c .before .before .before .before .before .before .before .before .before .before .before .before .before .before .before .before .before .before .before .before .before .before .extent .ensures) (c .before .before .before .before .before .before .before .before .before .before .before .before .before .before .before .before .before .before .before .before .before .least .ensures) (c .before .before .before .before .before .before .before .before .before .before .before .before .before .before .before .before .before .before .before .before .least2 .ensures) (r .run .ensures) (c .before .before .before .before .before .before .columns .ensures) (c .before .before .answer .ensures)
 
 pub answer-spec : {M : Type 1} → statement M
 answer-spec = tie.close (tie.spec extent-requires least-requires least-requires-2 slice-relend-prefix-run slice-aggregate-run slice-relend-prefix-run-2 slice-aggregate-run-2 run-requires columns-requires answer-requires same-length same-length-2 same-length-3 same-length-4 same-length-5 returns)
