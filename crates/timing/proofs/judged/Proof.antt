@@ -14,8 +14,11 @@ loop-holds c = tt
 judge-requires : tie.Need-judge-requires Inv-loop μ-loop
 judge-requires c κs = tt
 
-number-requires : tie.Need-number-requires Inv-loop μ-loop
-number-requires c κs = tt
+verdict-requires : tie.Need-verdict-requires Inv-loop μ-loop
+verdict-requires c κs = tt
+
+cast-last : tie.Need-cast-last Inv-loop μ-loop
+cast-last c = omega arith
 
 sub-left : tie.Need-sub-left Inv-loop μ-loop
 sub-left c = omega arith
@@ -37,7 +40,8 @@ judged-spec =
     μ-loop
     loop-holds
     judge-requires
-    number-requires
+    verdict-requires
+    cast-last
     sub-left
     loop-less
     loop-again
