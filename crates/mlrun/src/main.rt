@@ -24,15 +24,23 @@ struct State {
     description: Description,
 }
 
-// Writes what is waiting where there might not be room for one more answer; answers how much is waiting then.
-fn drain(output: &[u8], waiting: usize) -> usize
+// Writes what is waiting where there might not be room for one more answer; answers whether that could be done.
+fn drain(output: &[u8], waiting: usize) -> bool
     requires { ⌜ waiting ≤ length (now output) ⌝ }
+{
+    if waiting <= ROOM {
+        return true;
+    }
+    io::write_all(1, &output[..waiting])
+}
+
+// How much is waiting then.
+fn left(waiting: usize) -> usize
     ensures { λ r. ⌜ r ≤ 131072 ⌝ }
 {
     if waiting <= ROOM {
         return waiting;
     }
-    io::write_all(1, &output[..waiting]);
     0
 }
 
@@ -78,7 +86,7 @@ fn take(
     }
 }
 
-// The next record, if the input has one more.
+// The next record, if the input has one more and what was waiting could be written.
 fn next(
     input: &mut [u8],
     values: &mut [u32],
@@ -100,17 +108,21 @@ fn next(
     let size = input::size(input, window);
     let from = window.from;
     let to = window.to;
-    let waiting = drain(output, state.waiting);
+    let drained = drain(output, state.waiting);
+    let waiting = left(state.waiting);
     let description = state.description;
     let ready = State {
         from: from + size,
         to,
         waiting,
-        goes: size != 0,
+        goes: false,
         last: state.last,
         description,
     };
     if size == 0 {
+        return ready;
+    }
+    if !drained {
         return ready;
     }
     take(

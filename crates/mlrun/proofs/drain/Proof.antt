@@ -7,19 +7,19 @@ use Rattle.mlrun.proofs.drain.Reads as reads
 use Rattle.mlrun.proofs.drain.Lts as lts
 use Rattle.io.proofs.write_all.Reads as write-all-reads
 
--- src/main.rt:28:9
+-- src/main.rt:32:9
 returns : tie.Need-returns
 returns c = search needs
 
--- src/main.rt:30:22
+-- src/main.rt:34:22
 slice-aggregate-write-all : tie.Need-slice-aggregate-write-all
 slice-aggregate-write-all c = simp length-take (omega arith)
 
--- src/main.rt:30:5
+-- src/main.rt:34:5
 write-all-requires : tie.Need-write-all-requires
 write-all-requires c κs = search needs
 
--- src/main.rt:23:1
+-- src/main.rt:28:1
 returns-2 : tie.Need-returns-2
 returns-2 c = search needs
 

@@ -7,79 +7,96 @@ use Rattle.mlrun.proofs.next.Lts as lts
 use Rattle.mlrun.proofs.drain.Reads as drain-reads
 use Rattle.mlrun.proofs.input.fill.Reads as fill-reads
 use Rattle.mlrun.proofs.input.size.Reads as size-reads
+use Rattle.mlrun.proofs.left.Reads as left-reads
 use Rattle.mlrun.proofs.take.Reads as take-reads
 
--- src/main.rt:93:9
+-- src/main.rt:101:9
 fill-requires : tie.Need-fill-requires
 fill-requires c κs = search needs
 
--- src/main.rt:100:9
+-- src/main.rt:108:9
 size-requires : tie.Need-size-requires
 size-requires c κs = search needs
 
--- src/main.rt:103:9
+-- src/main.rt:111:9
 drain-requires : tie.Need-drain-requires
 drain-requires c κs = search needs
 
--- src/main.rt:106:15
+-- src/main.rt:112:9
+left-requires : tie.Need-left-requires
+left-requires c κs = search needs
+
+-- src/main.rt:115:15
 add-take : tie.Need-add-take
 add-take c = search needs
 
--- src/main.rt:114:9
+-- src/main.rt:123:9
 same-length : tie.Need-same-length
 same-length c = search needs
 
--- src/main.rt:114:9
+-- src/main.rt:123:9
 same-length-2 : tie.Need-same-length-2
 same-length-2 c = search needs
 
--- src/main.rt:114:9
+-- src/main.rt:123:9
 returns : tie.Need-returns
 returns c = search needs
 
--- src/main.rt:117:22
-add-take-2 : tie.Need-add-take-2
-add-take-2 c = search needs
-
--- src/main.rt:117:9
-sub-take : tie.Need-sub-take
-sub-take c = search needs
-
--- src/main.rt:117:9
-part-take-start : tie.Need-part-take-start
-part-take-start c = search needs
-
--- src/main.rt:117:9
-part-take-end : tie.Need-part-take-end
-part-take-end c = search needs
-
--- src/main.rt:116:5
-take-requires : tie.Need-take-requires
-take-requires c κs = search needs
-
--- src/main.rt:82:1
+-- src/main.rt:126:9
 same-length-3 : tie.Need-same-length-3
 same-length-3 c = search needs
 
--- src/main.rt:82:1
+-- src/main.rt:126:9
 same-length-4 : tie.Need-same-length-4
 same-length-4 c = search needs
 
--- src/main.rt:82:1
+-- src/main.rt:126:9
+returns-2 : tie.Need-returns-2
+returns-2 c = search needs
+
+-- src/main.rt:129:22
+add-take-2 : tie.Need-add-take-2
+add-take-2 c = search needs
+
+-- src/main.rt:129:9
+sub-take : tie.Need-sub-take
+sub-take c = search needs
+
+-- src/main.rt:129:9
+part-take-start : tie.Need-part-take-start
+part-take-start c = search needs
+
+-- src/main.rt:129:9
+part-take-end : tie.Need-part-take-end
+part-take-end c = search needs
+
+-- src/main.rt:128:5
+take-requires : tie.Need-take-requires
+take-requires c κs = search needs
+
+-- src/main.rt:90:1
 same-length-5 : tie.Need-same-length-5
 same-length-5 c = search needs
 
--- src/main.rt:82:1
+-- src/main.rt:90:1
 same-length-6 : tie.Need-same-length-6
 same-length-6 c = search needs
 
--- src/main.rt:82:1
-returns-2 : tie.Need-returns-2
-returns-2 c =
+-- src/main.rt:90:1
+same-length-7 : tie.Need-same-length-7
+same-length-7 c = search needs
+
+-- src/main.rt:90:1
+same-length-8 : tie.Need-same-length-8
+same-length-8 c = search needs
+
+-- src/main.rt:90:1
+returns-3 : tie.Need-returns-3
+returns-3 c =
     let t = c .before .before .before .before .before .before .take .ensures in
-    let z = c .before .before .before .before .before .before .before .before .before .before .before .before .before .before .before .before .size .ensures in
-    let f = c .before .before .before .before .before .before .before .before .before .before .before .before .before .before .before .before .before .before .before .before .fill .ensures in
-    let p = c .before .before .before .before .before .before .before .before .before .before .before .before .before .before .before .before .before .before .before .before .before .before .before .before .before .before .pre in
+    let z = c .before .before .before .before .before .before .before .before .before .before .before .before .before .before .before .before .before .before .size .ensures in
+    let f = c .before .before .before .before .before .before .before .before .before .before .before .before .before .before .before .before .before .before .before .before .before .before .fill .ensures in
+    let p = c .before .before .before .before .before .before .before .before .before .before .before .before .before .before .before .before .before .before .before .before .before .before .before .before .before .before .before .before .pre in
     record {
       ordered = omega (arith, t .0, t .1, z);
       read = omega (arith, t .1, f .1);
@@ -95,17 +112,21 @@ next-spec =
     fill-requires
     size-requires
     drain-requires
+    left-requires
     add-take
     same-length
     same-length-2
     returns
+    same-length-3
+    same-length-4
+    returns-2
     add-take-2
     sub-take
     part-take-start
     part-take-end
     take-requires
-    same-length-3
-    same-length-4
     same-length-5
     same-length-6
-    returns-2)
+    same-length-7
+    same-length-8
+    returns-3)
