@@ -25,11 +25,11 @@ use Rattle.theory.proofs.Order.{reach-local}
 use Rattle.theory.proofs.Fine.{no-level}
 use Rattle.theory.proofs.Seek.{Sought, there, nowhere, sought}
 use Rattle.theory.proofs.Reach.{carry-own, carry-above, carry-aside, Side, at-c, over-c, off-c, side}
+use Rattle.cells.proofs.Changes.{level-path}
 use Rattle.above.specs.declared.Plan.{Plan}
 use Rattle.above.specs.Facts.{markedAt, aboveOf, carried, touchedBy, turnedBy, turned, rowAfter, withRows, goneBy, rowUnnamed, withReferrers, givenBy, Working, Planned}
 use Rattle.above.proofs.Referred.{unlike, done-named}
 use Rattle.above.proofs.Taken.{foreign-small}
-use Rattle.above.proofs.Changes.{level-path}
 use Rattle.above.proofs.Taken.{given-marks, given-gone, turns, foreign-small}
 
 at-same : (d : Description) (S S′ : State) (m : ℕ) → S m ≡ S′ m → (s v : ℕ) → at d (rowsOf S) s m v ≡ at d (rowsOf S′) s m v

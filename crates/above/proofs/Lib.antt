@@ -1,5 +1,4 @@
 pub mod Carried
-pub mod Changes
 pub mod Levels
 pub mod Reached
 pub mod Referred
@@ -7,4 +6,5 @@ pub mod Rewritten
 pub mod Settled
 pub mod Sought
 pub mod Taken
+pub mod Turns
 pub mod Unnamed

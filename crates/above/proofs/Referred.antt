@@ -6,7 +6,6 @@ use mathlib.Core.Bool.{Bool, true, false, _&&_}
 use mathlib.Core.Logic.{_≢_}
 use native.Mathlib.Omega.{arith}
 use lib.Dec.{eqb, ltb}
-use lib.ListN.{getD}
 use borrow.Author.Tests.{eq-eqb, ne-eqb, lt-ltb, le-ltb, eqb-true, ltb-true}
 use Rattle.bounded.specs.Tests.{if_then_else_}
 use Rattle.bounded.proofs.Cases.{cases, order, and-false-right}
@@ -18,16 +17,12 @@ use Rattle.model.proofs.Sound.{relation-r, some-of, Reference, sound-r, relatio
 use Rattle.cells.specs.Layout.{InLevel}
 use Rattle.cells.specs.Changed.{changeLevel}
 use Rattle.cells.proofs.Counts.{relation-few}
+use Rattle.cells.proofs.Changes.{level-path, change-as, change-same, change-here, change-other, change-on}
 use Rattle.above.specs.declared.Plan.{Plan}
 use Rattle.above.specs.Facts.{Apart, Referring, goneBy, rowUnnamed, withRows, withReferrer, withReferrers}
-use Rattle.above.proofs.Changes.{level-path, change-as, change-same, change-here, change-other, change-on}
 use Rattle.above.proofs.Unnamed.{unnamed-keeps, Alike, unnamed-same}
 
 -- ---- relations that refer to it
-
-pub refers-is : (d : Description) (s : ℕ) → isRelation d s ≡ true → getD (d .refers) s 0 ≡ refersOf d s
-unfolding refersOf ofRelation
-refers-is d s h = rw h
 
 -- a relation with a column is one
 keyed-relation : (d : Description) (r : ℕ) → 0 < columnCount d r → isRelation d r ≡ true

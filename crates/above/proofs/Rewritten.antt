@@ -8,41 +8,20 @@ use mathlib.Core.List.{List}
 use native.Mathlib.Omega.{arith}
 use lib.Dec.{eqb}
 use lib.ListN.{getD}
-use borrow.Author.Tests.{eq-eqb, ne-eqb, lt-ltb, le-ltb, eqb-true}
-use Rattle.bounded.proofs.Cases.{cases, order, and-false-right}
+use borrow.Author.Tests.{eq-eqb, ne-eqb, eqb-true}
+use Rattle.bounded.proofs.Cases.{cases, and-false-right}
 use Rattle.bounded.proofs.Reflection.{is-false}
 use Rattle.model.specs.declared.Description.{Description}
-use Rattle.model.specs.Description.{between}
 use Rattle.model.specs.Tables.{Cell, Row, cell, norow, same, Level, State}
 use Rattle.model.specs.Buffers.{stateOf}
 use Rattle.model.proofs.Sound.{between-r}
 use Rattle.cells.specs.Changed.{holding, valueAt, classAt, withCell, withRow, changeLevel}
 use Rattle.cells.proofs.Cells.{state-cell}
-use Rattle.cells.proofs.Written.{row-more}
+use Rattle.cells.proofs.Changes.{level-path, change-same, change-here, change-other}
+use Rattle.cells.proofs.Written.{row-more, row-same}
 use Rattle.above.specs.declared.Plan.{Plan}
 use Rattle.above.specs.Facts.{OneRow, touchedBy, becomes, turnedBy, turned, rowAfter, withRows}
-
--- ---- a level changed
-
-level-path : {B C : Level} → ((r i k : ℕ) → B .rows r i k ≡ C .rows r i k) → B ≡ C
-level-path h = ap (λ (D : ℕ → ℕ → Row). record { rows = D }) (fun-ext (λ r. fun-ext (λ i. fun-ext (λ k. h r i k))))
-
-change-same : (l : ℕ) (f : Level → Level) (S : State) → f (S l) ≡ S l → S ≡ changeLevel l f S
-unfolding changeLevel
-change-same l f S e = fun-ext (λ m. cases (eqb l m) (λ q. rw (← (eqb-true l m q), eq-eqb l l refl) (sym e)) (λ q. rw q))
-
-change-twice : (l : ℕ) (f g : Level → Level) (S : State) → changeLevel l f (changeLevel l g S) ≡ changeLevel l (λ B. f (g B)) S
-unfolding changeLevel
-change-twice l f g S = fun-ext (λ m. cases (eqb l m) (λ q. rw q) (λ q. rw q))
-
-change-here : (l : ℕ) (f : Level → Level) (S : State) → changeLevel l f S l ≡ f (S l)
-unfolding changeLevel
-change-here l f S = rw (eq-eqb l l refl)
-
--- another level stays
-pub change-other : (l m : ℕ) (f : Level → Level) (S : State) {S′ : State} → S′ ≡ changeLevel l f S → l ≢ m → S′ m ≡ S m
-unfolding changeLevel
-change-other l m f S e n = rw (e, ne-eqb l m n)
+use Rattle.above.proofs.Turns.{rows-more, rows-still}
 
 -- ---- a cell
 
@@ -136,18 +115,6 @@ pub cells-turned : (d : Description) (vs cs : List ℕ) (l n r i : ℕ) (ks us o
 unfolding turned
 cells-turned d vs cs l n r i ks us os c p q = cells-more l n r i (turned ks us os c) (stateOf d (holding vs cs)) p q
 
-row-same : (m r i : ℕ) (R : Row) (B : Level) → R ≡ B .rows r i → withRow m r i R B ≡ B
-unfolding withRow
-row-same m r i R B e =
-    level-path (λ s j k.
-    cases (eqb r s)
-    (λ t. cases (eqb i j)
-    (λ u. cases (between 1 m k)
-    (λ w. rw (t, u, w, ← (eqb-true r s t), ← (eqb-true i j u)) (ap (λ (Q : Row). Q k) e))
-    (λ w. rw (t, u, w)))
-    (λ u. rw (t, u)))
-    (λ t. rw t))
-
 module _ (d : Description) (vs cs : List ℕ) (n m r l i : ℕ) (P : Plan) (c : ℕ) where
   abbrev T : State
   T = stateOf d (holding vs cs)
@@ -161,7 +128,7 @@ module _ (d : Description) (vs cs : List ℕ) (n m r l i : ℕ) (P : Plan) (c : 
   -- a row whose entity isn't touched stays
   pub row-kept : {b : Bool} → b ≡ touched → b ≡ false → T ≡ changeLevel l (withRow m r i after) T
   unfolding rowAfter
-  row-kept e f = let t = sym e ∙ f in change-same l (withRow m r i after) T (row-same m r i after (T l) (fun-ext (λ k. rw t)))
+  row-kept e f = let t = sym e ∙ f in change-same l (withRow m r i after) T (row-same m r i after (T l) (λ k. rw t))
 
   module _ {b : Bool} (e : b ≡ touched) (f : b ≡ true) {q : ℕ} (is : q ≡ classAt d cs r l i 1) where
     is-touched : touched ≡ true
@@ -182,43 +149,6 @@ module _ (d : Description) (vs cs : List ℕ) (n m r l i : ℕ) (P : Plan) (c : 
 
 -- ---- the rows, one after another
 
-rows-none : (m r : ℕ) (F : ℕ → Row) (B : Level) → withRows 0 m r F B ≡ B
-unfolding withRows
-rows-none m r F B = level-path (λ s j k. cases (eqb r s) (λ t. rw (t, le-ltb j 0 (omega arith))) (λ t. rw t))
-
-rows-turn : (n m r : ℕ) (F : ℕ → Row) (B : Level) → withRow m r n (F n) (withRows n m r F B) ≡ withRows (n + 1) m r F B
-unfolding withRows withRow
-rows-turn n m r F B =
-    level-path (λ s j k.
-    cases (eqb r s)
-    (λ t. order j n
-    (λ h. rw (t, ne-eqb n j (λ e. omega arith), lt-ltb j n h, lt-ltb j (n + 1) (omega arith)))
-    (λ e. cases (between 1 m k)
-    (λ w. rw (t, e, eq-eqb n n refl, lt-ltb n (n + 1) (omega arith), w))
-    (λ w. rw (t, e, eq-eqb n n refl, le-ltb n n (omega arith), lt-ltb n (n + 1) (omega arith), w)))
-    (λ h. rw (t, ne-eqb n j (λ e. omega arith), le-ltb j n (omega arith), le-ltb j (n + 1) (omega arith))))
-    (λ t. rw t))
-
-rows-next : (n m r : ℕ) (F : ℕ → Row) (B : Level) → withRows n m r F B .rows r n ≡ B .rows r n
-unfolding withRows
-rows-next n m r F B = fun-ext (λ k. rw (eq-eqb r r refl, le-ltb n n (omega arith)))
-
-pub rows-start : (l m r : ℕ) (F : ℕ → Row) (S : State) → S ≡ changeLevel l (withRows 0 m r F) S
-rows-start l m r F S = change-same l (withRows 0 m r F) S (rows-none m r F (S l))
-
-pub rows-more : (l n m r : ℕ) (F : ℕ → Row) (S₀ : State) {S S′ : State} {R : Row} → S ≡ changeLevel l (withRows n m r F) S₀ → S′ ≡ changeLevel l (withRow m r n R) S → R ≡ F n → S′ ≡ changeLevel l (withRows (n + 1) m r F) S₀
-rows-more l n m r F S₀ p q e =
-    q ∙ (ap₂ (λ (R : Row) (S : State). changeLevel l (withRow m r n R) S) e p
-    ∙ (change-twice l (withRow m r n (F n)) (withRows n m r F) S₀ ∙ ap (λ (f : Level → Level). changeLevel l f S₀) (fun-ext (rows-turn n m r F))))
-
-pub rows-end : (l n k m r : ℕ) (F : ℕ → Row) (S₀ : State) {S : State} → S ≡ changeLevel l (withRows k m r F) S₀ → k ≡ n → S ≡ changeLevel l (withRows n m r F) S₀
-rows-end l n k m r F S₀ p e = rw e at p
-
--- the next row is not yet changed
-pub rows-still : (l n m r : ℕ) (F : ℕ → Row) (S₀ : State) {S : State} → S ≡ changeLevel l (withRows n m r F) S₀ → S l .rows r n ≡ S₀ l .rows r n
-rows-still l n m r F S₀ p =
-    ap (λ (T : State). T l .rows r n) p ∙ ap (λ (B : Level). B .rows r n) (change-here l (withRows n m r F) S₀) ∙ rows-next n m r F (S₀ l)
-
 -- rows of tables that hold the same at a level have the same keys there
 one-kept : (d : Description) (vs cs vs′ cs′ : List ℕ) (r l : ℕ) → stateOf d (holding vs′ cs′) l ≡ stateOf d (holding vs cs) l → OneRow d vs r l → OneRow d vs′ r l
 one-kept d vs cs vs′ cs′ r l e o =
@@ -238,12 +168,16 @@ module _ (d : Description) (vs cs : List ℕ) (l n m r N c : ℕ) (P : Plan) whe
   abbrev planned : ℕ → Row
   planned i = rowAfter N P c (S₀ c .rows r) (S₀ l .rows r i)
 
+  -- the subject's level stays
+  other : {S : State} → S ≡ changeLevel l (withRows n m r planned) S₀ → l ≢ c → S c ≡ S₀ c
+  other p o = ap (λ (T : State). T c) p ∙ change-other l c (withRows n m r planned) S₀ o
+
   pub rows-after : {S S′ : State} → l ≢ c → S ≡ changeLevel l (withRows n m r planned) S₀
       → S′ ≡ changeLevel l (withRow m r n (rowAfter N P c (S c .rows r) (S l .rows r n))) S → S′ ≡ changeLevel l (withRows (n + 1) m r planned) S₀
   rows-after o p q =
-      let B = ap (λ (L : Level). L .rows r) (change-other l c (withRows n m r planned) S₀ p o) in
+      let B = ap (λ (L : Level). L .rows r) (other p o) in
       rows-more l n m r planned S₀ p q (ap₂ (rowAfter N P c) B (rows-still l n m r planned S₀ p))
 
   -- no key stands in two rows of the subject's level, as before
   pub rows-one : (vs′ cs′ : List ℕ) → l ≢ c → stateOf d (holding vs′ cs′) ≡ changeLevel l (withRows n m r planned) S₀ → OneRow d vs r c → OneRow d vs′ r c
-  rows-one vs′ cs′ o p u = one-kept d vs cs vs′ cs′ r c (change-other l c (withRows n m r planned) S₀ p o) u
+  rows-one vs′ cs′ o p u = one-kept d vs cs vs′ cs′ r c (other p o) u

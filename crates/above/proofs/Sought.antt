@@ -1,31 +1,26 @@
--- A search for a key over a buffer is the search over the rows of its tables; and what the searches for an entity at two levels say, way by way.
+-- What the searches for a key at two levels say, way by way.
 -- Assumes nothing.
 use Prim.Native.Nat.{ℕ, _≤_, _<_}
-use mathlib.Core.Path.{_≡_, refl, sym, ap, _∙_}
+use mathlib.Core.Path.{_≡_, refl, sym, _∙_}
 use mathlib.Core.Bool.{Bool, true, false}
 use mathlib.Core.Logic.{_≢_}
 use mathlib.Core.List.{List}
 use native.Mathlib.Omega.{arith}
 use lib.Dec.{eqb, ltb, leb}
 use lib.ListN.{getD}
-use borrow.Author.Tests.{lt-ltb, le-ltb, ltb-true, ltb-false, lt-leb, le-leb, eq-eqb, ne-eqb, eqb-true}
+use borrow.Author.Tests.{lt-ltb, le-ltb, ltb-true, ltb-false, lt-leb, le-leb, eq-eqb, ne-eqb}
 use Rattle.bounded.proofs.Cases.{cases}
-use Rattle.bounded.proofs.First.{First, found, absent, first-cases, first-cong, first-holds}
+use Rattle.bounded.proofs.First.{First, found, absent, first-cases}
 use Rattle.bounded.proofs.Reflection.{of-true, of-false, eqb-r}
 use Rattle.model.specs.declared.Description.{Description}
 use Rattle.model.specs.Description.{rowCount}
-use Rattle.model.specs.Tables.{Cell, cell, norow, same, used, State, rowsOf, place, seek, at}
-use Rattle.model.specs.Buffers.{inside, stateOf}
-use Rattle.model.proofs.Border.{inside-shown}
-use Rattle.cells.specs.Layout.{InLevel}
+use Rattle.model.specs.Tables.{same, used, State, rowsOf, at}
+use Rattle.model.specs.Buffers.{stateOf}
 use Rattle.cells.specs.Changed.{holding, valueAt, classAt, keyPlace}
 use Rattle.cells.proofs.Cells.{state-cell}
+use Rattle.cells.proofs.Sought.{place-key, at-there, at-nowhere}
 use Rattle.above.specs.declared.Plan.{Plan}
 use Rattle.above.specs.Facts.{OneRow, markedAt, touchedBy, goneBy}
-
--- a row has a key
-pub key-inside : (d : Description) (r l i : ℕ) → InLevel d r l → i < rowCount d r → inside d r l i 1 ≡ true
-key-inside d r l i h g = inside-shown d r l i 1 (record { relation = h .relation; level = h .level; row = g; least = omega arith; column = h .keyed })
 
 -- a row that has the key is the row of the key, where no key stands in two rows
 pub key-here : (d : Description) (vs : List ℕ) (r l v i : ℕ) → OneRow d vs r l → v ≢ 0 → i < rowCount d r → valueAt d vs r l i 1 ≡ v → i ≡ keyPlace d vs r l v
@@ -40,24 +35,6 @@ module _ (d : Description) (vs cs : List ℕ) where
   abbrev S : State
   S = stateOf d (holding vs cs)
 
-  pub place-key : (r l v : ℕ) → place (rowCount d r) (S l .rows r) v ≡ keyPlace d vs r l v
-  unfolding place keyPlace
-  place-key r l v = first-cong (rowCount d r) _ _ (λ i h. ap (λ (x : Cell). eqb (x .value) v) (state-cell d vs cs r l i 1))
-
-  -- the key's own cell, and the row that has it
-  pub key-is : (r l v : ℕ) {i : ℕ} → i ≡ keyPlace d vs r l v → i < rowCount d r → valueAt d vs r l i 1 ≡ v
-  unfolding keyPlace
-  key-is r l v e h = rw e (eqb-true _ _ (first-holds (rowCount d r) (λ j. eqb (valueAt d vs r l j 1) v) (rw e at h)))
-
-  pub at-there : (r l v : ℕ) {i : ℕ} → i ≡ keyPlace d vs r l v → i < rowCount d r → at d (rowsOf S) r l v 1 ≡ cell v (classAt d cs r l i 1)
-  unfolding at seek
-  at-there r l v {i} e h =
-      rw (place-key r l v, ← e, lt-ltb i (rowCount d r) h) (state-cell d vs cs r l i 1 ∙ ap (λ (x : ℕ). cell x (classAt d cs r l i 1)) (key-is r l v e h))
-
-  pub at-nowhere : (r l v : ℕ) {i : ℕ} → i ≡ keyPlace d vs r l v → rowCount d r ≤ i → at d (rowsOf S) r l v ≡ norow
-  unfolding at seek
-  at-nowhere r l v {i} e h = rw (place-key r l v, ← e, le-ltb i (rowCount d r) h)
-
   -- ---- whether a row is emptied
 
   module _ (r : ℕ) (P : Plan) (c l v : ℕ) where
@@ -71,27 +48,27 @@ module _ (d : Description) (vs cs : List ℕ) where
     module _ (on : P .gone ≡ true) {own : ℕ} (e : own ≡ keyPlace d vs r c v) where
       pub gone-none : rowCount d r ≤ own → false ≡ gone
       unfolding goneBy markedAt
-      gone-none h = rw (on, place-key r c v, ← e, le-ltb own (rowCount d r) h)
+      gone-none h = rw (on, place-key d vs cs r c v, ← e, le-ltb own (rowCount d r) h)
 
       module _ (h : own < rowCount d r) where
         pub gone-unmarked : getD (P .marks) own false ≡ false → false ≡ gone
         unfolding goneBy markedAt
-        gone-unmarked m = rw (on, place-key r c v, ← e, lt-ltb own (rowCount d r) h, m)
+        gone-unmarked m = rw (on, place-key d vs cs r c v, ← e, lt-ltb own (rowCount d r) h, m)
 
         module _ (m : getD (P .marks) own false ≡ true) where
           pub gone-other : (classAt d cs r c own 1 ≡ c → ⊥) → false ≡ gone
           unfolding goneBy markedAt
-          gone-other n = rw (on, place-key r c v, ← e, lt-ltb own (rowCount d r) h, m, at-there r c v e h, ne-eqb _ _ n)
+          gone-other n = rw (on, place-key d vs cs r c v, ← e, lt-ltb own (rowCount d r) h, m, at-there d vs cs r c v e h, ne-eqb _ _ n)
 
           module _ (q : classAt d cs r c own 1 ≡ c) {row : ℕ} (f : row ≡ keyPlace d vs r l v) where
             pub gone-missing : c < 16 → rowCount d r ≤ row → false ≡ gone
             unfolding goneBy markedAt
             gone-missing s g =
-                rw (on, place-key r c v, ← e, lt-ltb own (rowCount d r) h, m, at-there r c v e h, eq-eqb _ _ q, at-nowhere r l v f g, ne-eqb 255 c (λ x. omega arith))
+                rw (on, place-key d vs cs r c v, ← e, lt-ltb own (rowCount d r) h, m, at-there d vs cs r c v e h, eq-eqb _ _ q, at-nowhere d vs cs r l v f g, ne-eqb 255 c (λ x. omega arith))
 
             pub gone-there : row < rowCount d r → eqb (classAt d cs r l row 1) c ≡ gone
             unfolding goneBy markedAt
-            gone-there g = rw (on, place-key r c v, ← e, lt-ltb own (rowCount d r) h, m, at-there r c v e h, eq-eqb _ _ q, at-there r l v f g)
+            gone-there g = rw (on, place-key d vs cs r c v, ← e, lt-ltb own (rowCount d r) h, m, at-there d vs cs r c v e h, eq-eqb _ _ q, at-there d vs cs r l v f g)
 
   -- ---- whether a row is touched
 
@@ -106,17 +83,17 @@ module _ (d : Description) (vs cs : List ℕ) where
     module _ (nz : v ≢ 0) {own : ℕ} (e : own ≡ keyPlace d vs r c v) where
       pub touched-none : rowCount d r ≤ own → false ≡ touched
       unfolding touchedBy used markedAt
-      touched-none h = rw (state-cell d vs cs r l i 1, ← k, ne-eqb v 0 nz, place-key r c v, ← e, le-ltb own (rowCount d r) h)
+      touched-none h = rw (state-cell d vs cs r l i 1, ← k, ne-eqb v 0 nz, place-key d vs cs r c v, ← e, le-ltb own (rowCount d r) h)
 
       module _ (h : own < rowCount d r) where
         pub touched-unmarked : getD marks own false ≡ false → false ≡ touched
         unfolding touchedBy used markedAt
-        touched-unmarked m = rw (state-cell d vs cs r l i 1, ← k, ne-eqb v 0 nz, place-key r c v, ← e, lt-ltb own (rowCount d r) h, m)
+        touched-unmarked m = rw (state-cell d vs cs r l i 1, ← k, ne-eqb v 0 nz, place-key d vs cs r c v, ← e, lt-ltb own (rowCount d r) h, m)
 
         pub touched-marked : getD marks own false ≡ true → eqb (classAt d cs r c own 1) (classAt d cs r l i 1) ≡ touched
         unfolding touchedBy used markedAt
         touched-marked m =
-            rw (state-cell d vs cs r l i 1, ← k, ne-eqb v 0 nz, place-key r c v, ← e, lt-ltb own (rowCount d r) h, m, state-cell d vs cs r c own 1)
+            rw (state-cell d vs cs r l i 1, ← k, ne-eqb v 0 nz, place-key d vs cs r c v, ← e, lt-ltb own (rowCount d r) h, m, state-cell d vs cs r c own 1)
 
   -- ---- whether two rows with one key are one entity
 
@@ -128,13 +105,13 @@ module _ (d : Description) (vs cs : List ℕ) where
     unfolding same
     agree-none h =
         cases (ltb j (rowCount d r))
-        (λ t. let g = ltb-true _ _ t in rw (at-nowhere r a v e h, at-there r b v f g, ne-eqb 0 v (λ z. nz (sym z)), lt-leb (rowCount d r) j g))
-        (λ t. let g = ltb-false _ _ t in rw (at-nowhere r a v e h, at-nowhere r b v f g, le-leb (rowCount d r) j g))
+        (λ t. let g = ltb-true _ _ t in rw (at-nowhere d vs cs r a v e h, at-there d vs cs r b v f g, ne-eqb 0 v (λ z. nz (sym z)), lt-leb (rowCount d r) j g))
+        (λ t. let g = ltb-false _ _ t in rw (at-nowhere d vs cs r a v e h, at-nowhere d vs cs r b v f g, le-leb (rowCount d r) j g))
 
     pub agree-one : i < rowCount d r → rowCount d r ≤ j → false ≡ agree
     unfolding same
-    agree-one h g = rw (at-there r a v e h, at-nowhere r b v f g, ne-eqb v 0 nz)
+    agree-one h g = rw (at-there d vs cs r a v e h, at-nowhere d vs cs r b v f g, ne-eqb v 0 nz)
 
     pub agree-both : i < rowCount d r → j < rowCount d r → eqb (classAt d cs r a i 1) (classAt d cs r b j 1) ≡ agree
     unfolding same
-    agree-both h g = rw (at-there r a v e h, at-there r b v f g, eq-eqb v v refl)
+    agree-both h g = rw (at-there d vs cs r a v e h, at-there d vs cs r b v f g, eq-eqb v v refl)

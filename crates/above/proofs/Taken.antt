@@ -11,46 +11,31 @@ use lib.Seq.{getD-set-same, getD-set-other}
 use borrow.Author.Tests.{eq-eqb, ne-eqb, eqb-true, eqb-false}
 use Rattle.bounded.specs.Tests.{if_then_else_}
 use Rattle.bounded.proofs.Cases.{cases}
-use Rattle.bounded.proofs.Reflection.{of-true, is-true}
 use Rattle.model.specs.declared.Description.{Description}
-use Rattle.model.specs.Description.{foreignOf, refersOf, isRelation, ofRelation, sound}
+use Rattle.model.specs.Description.{foreignOf, refersOf, isRelation, sound}
 use Rattle.model.specs.Tables.{Cell, cell, same, State, rowsOf, at, ownNull}
 use Rattle.model.specs.Effect.{take, agrees, changed}
-use Rattle.model.proofs.Sound.{Relation, sound-r, relation-of, relation-r}
 use Rattle.theory.proofs.Fine.{cell-path}
 use Rattle.theory.proofs.Reach.{null-value}
-use Rattle.cells.specs.Layout.{InLevel}
+use Rattle.cells.proofs.Counts.{relation-is, foreign-is, target-relation}
 use Rattle.above.specs.declared.Plan.{Plan}
 use Rattle.above.specs.Facts.{changeOf, becomes, lostBy, handed, givenBy, Planned}
-use Rattle.above.proofs.Referred.{refers-is}
 
 -- ---- the relation that is referred to
 
-pub foreign-is : (d : Description) (r : ℕ) → isRelation d r ≡ true → getD (d .foreign) r 0 ≡ foreignOf d r
-unfolding foreignOf ofRelation
-foreign-is d r h = rw h
-
 module _ (d : Description) (z : sound d ≡ true) (r : ℕ) (h : isRelation d r ≡ true) where
-  relation : Relation d r
-  relation = relation-of d (of-true (sound-r d) z) r h
-
-  pub in-level : (l : ℕ) → l < d .levels → InLevel d r l
-  in-level l g = record { relation = omega (arith, of-true (relation-r d r) h .1); level = g; keyed = relation .keyed }
-
   pub foreign-small : foreignOf d r < 9
   foreign-small =
       cases (eqb (foreignOf d r) 0)
       (λ t. omega (arith, eqb-true (foreignOf d r) 0 t))
-      (λ t. omega (arith, relation .referring (eqb-false _ _ t) .column, relation .narrow))
+      (λ t. let R = relation-is d z r h in omega (arith, R .referring (eqb-false _ _ t) .column, R .narrow))
 
   pub foreign-few : getD (d .foreign) r 0 < 9
   foreign-few = rw (foreign-is d r h) foreign-small
 
   -- a relation with a column for it refers to a relation
   pub referred : getD (d .foreign) r 0 ≢ 0 → isRelation d (getD (d .refers) r 0) ≡ true
-  referred n =
-      let F = relation .referring (λ e. n (foreign-is d r h ∙ e)) in
-      is-true (relation-r d (getD (d .refers) r 0)) (omega (arith, refers-is d r h, F .some), omega (arith, refers-is d r h, F .lower, of-true (relation-r d r) h .1))
+  referred n = target-relation d z r h (λ e. n (foreign-is d r h ∙ e))
 
 -- ---- whether it is lost
 

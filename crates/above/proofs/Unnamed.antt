@@ -8,57 +8,39 @@ use mathlib.Core.List.{List}
 use native.Mathlib.Omega.{arith}
 use lib.Dec.{eqb}
 use lib.ListN.{getD}
-use borrow.Author.Tests.{eq-eqb, ne-eqb, lt-ltb, le-ltb, eqb-true}
+use borrow.Author.Tests.{eq-eqb, ne-eqb, eqb-true}
 use Rattle.bounded.specs.Tests.{if_then_else_}
 use Rattle.bounded.proofs.Cases.{cases, and-false-right}
-use Rattle.bounded.proofs.First.{first-cong, first-holds}
-use Rattle.bounded.proofs.Reflection.{is-true, of-true, of-false, eqb-r}
+use Rattle.bounded.proofs.Reflection.{is-true, of-false, eqb-r}
 use Rattle.model.specs.declared.Description.{Description}
-use Rattle.model.specs.Description.{between, isRelation, ofRelation, rowCount, foreignOf}
-use Rattle.model.specs.Tables.{Cell, Row, cell, norow, same, Level, State, rowsOf, place, seek, at}
+use Rattle.model.specs.Description.{between, rowCount, foreignOf}
+use Rattle.model.specs.Tables.{Cell, Row, cell, same, Level, State, rowsOf, seek, at}
 use Rattle.model.specs.Buffers.{inside, stateOf}
 use Rattle.model.proofs.Border.{inside-shown}
 use Rattle.model.proofs.Sound.{between-r}
-use Rattle.cells.specs.Layout.{InLevel}
 use Rattle.cells.specs.Changed.{holding, valueAt, classAt, keyPlace, withValue, withRow, changeLevel}
+use Rattle.cells.proofs.Counts.{foreign-is}
 use Rattle.cells.proofs.Cells.{state-cell}
+use Rattle.cells.proofs.Changes.{level-path, change-as, change-same, change-here, change-other}
+use Rattle.cells.proofs.Written.{row-same}
+use Rattle.cells.proofs.Sought.{key-is, at-row, at-nowhere}
 use Rattle.above.specs.declared.Plan.{Plan}
 use Rattle.above.specs.Facts.{Referring, goneBy, rowUnnamed, withRows}
-use Rattle.above.proofs.Changes.{level-path, change-as, change-same, change-here, change-other, rows-more}
+use Rattle.above.proofs.Turns.{rows-next, rows-more}
 
 eqb-swap : (m n : ℕ) → eqb m n ≡ eqb n m
 eqb-swap m n = cases (eqb n m) (λ t. eq-eqb m n (sym (eqb-true n m t)) ∙ sym t) (λ t. ne-eqb m n (λ e. of-false (eqb-r n m) t (sym e)) ∙ sym t)
 
 -- ---- the row of a key
 
--- the key of a row
-pub inside-key : (d : Description) (r l i : ℕ) → InLevel d r l → i < rowCount d r → inside d r l i 1 ≡ true
-inside-key d r l i h g = inside-shown d r l i 1 (record { relation = h .relation; level = h .level; row = g; least = omega arith; column = h .keyed })
-
 module _ (d : Description) (vs cs : List ℕ) (r l v : ℕ) where
-  place-key : place (rowCount d r) (stateOf d (holding vs cs) l .rows r) v ≡ keyPlace d vs r l v
-  unfolding place keyPlace
-  place-key = first-cong (rowCount d r) (λ i. eqb (stateOf d (holding vs cs) l .rows r i 1 .value) v) (λ i. eqb (valueAt d vs r l i 1) v) (λ i h. rw state-cell)
-
-  at-none : rowCount d r ≤ keyPlace d vs r l v → at d (rowsOf (stateOf d (holding vs cs))) r l v ≡ norow
-  unfolding at seek
-  at-none h = rw (place-key, le-ltb (keyPlace d vs r l v) (rowCount d r) h)
-
-  at-some : {i : ℕ} → i ≡ keyPlace d vs r l v → i < rowCount d r → at d (rowsOf (stateOf d (holding vs cs))) r l v ≡ stateOf d (holding vs cs) l .rows r i
-  unfolding at seek
-  at-some {i} e h = rw (place-key, ← e, lt-ltb i (rowCount d r) h)
-
-  key-some : {i : ℕ} → i ≡ keyPlace d vs r l v → i < rowCount d r → valueAt d vs r l i 1 ≡ v
-  unfolding keyPlace
-  key-some {i} e h = of-true (eqb-r (valueAt d vs r l i 1) v) (rw e (first-holds (rowCount d r) (λ j. eqb (valueAt d vs r l j 1) v) (rw e at h)))
-
   own-none : (x : Cell) → rowCount d r ≤ keyPlace d vs r l v → same x (at d (rowsOf (stateOf d (holding vs cs))) r l v 1) ≡ (eqb (x .value) 0 && eqb (x .class) 255)
   unfolding same
-  own-none x h = rw (at-none h)
+  own-none x h = rw (at-nowhere d vs cs r l v refl h)
 
   own-some : (x : Cell) {i : ℕ} → i ≡ keyPlace d vs r l v → i < rowCount d r → x .value ≡ v → same x (at d (rowsOf (stateOf d (holding vs cs))) r l v 1) ≡ eqb (x .class) (classAt d cs r l i 1)
   unfolding same
-  own-some x {i} e h q = rw (at-some e h, state-cell, key-some e h, eq-eqb (x .value) v q)
+  own-some x {i} e h q = rw (at-row d vs cs r l v e h, state-cell, key-is d vs cs r l v e h, eq-eqb (x .value) v q)
 
 -- whether the entity of row i at m has a row at l, from its key, its key class and the row that has the key at l
 module _ (d : Description) (vs cs : List ℕ) (r l m i : ℕ) {key class own rows : ℕ}
@@ -89,25 +71,11 @@ module _ (d : Description) (vs cs : List ℕ) (r l i k c : ℕ) (b : Bool) {x : 
 pub value-cell : (d : Description) (vs cs : List ℕ) (r l i k : ℕ) → valueAt d vs r l i k ≡ stateOf d (holding vs cs) l .rows r i k .value
 value-cell d vs cs r l i k = rw state-cell
 
-pub foreign-is : (d : Description) (s : ℕ) → isRelation d s ≡ true → getD (d .foreign) s 0 ≡ foreignOf d s
-unfolding foreignOf ofRelation
-foreign-is d s h = rw h
-
 -- the reference of a row
 pub inside-foreign : (d : Description) (r s c l i : ℕ) → Referring d r s c l → i < rowCount d s → inside d s l i (getD (d .foreign) s 0) ≡ true
 inside-foreign d r s c l i h g =
     rw (foreign-is d s (h .named))
     (inside-shown d s l i (foreignOf d s) (record { relation = h .level .relation; level = h .level .level; row = g; least = h .foreign; column = h .column }))
-
-row-same : (n r i : ℕ) (R : Row) (B : Level) → ((k : ℕ) → R k ≡ B .rows r i k) → withRow n r i R B ≡ B
-unfolding withRow
-row-same n r i R B e =
-    level-path (λ s j k.
-    cases (eqb r s)
-    (λ t. cases (eqb i j)
-    (λ u. cases (between 1 n k) (λ w. rw (t, u, w, ← (eqb-true r s t), ← (eqb-true i j u)) (e k)) (λ w. rw (t, u, w)))
-    (λ u. rw (t, u)))
-    (λ t. rw t))
 
 module _ (d : Description) (r : ℕ) (P : Plan) (c : ℕ) (S : State) (l s : ℕ) where
   -- a row is told by its own cells and by who holds it
@@ -197,14 +165,10 @@ module _ (d : Description) (r : ℕ) (P : Plan) (c : ℕ) (S₀ : State) (l s : 
   unfolding withRows
   rows-other n m z F B h = fun-ext (λ i. fun-ext (λ k. rw (ne-eqb s z h)))
 
-  rows-later : (n m : ℕ) (F : ℕ → Row) (B : Level) → withRows n m s F B .rows s n ≡ B .rows s n
-  unfolding withRows
-  rows-later n m F B = fun-ext (λ k. rw (eq-eqb s s refl, le-ltb n n (omega arith)))
-
   pub references-more : (n m : ℕ) → l ≢ c → r < s → {S S′ : State} → S ≡ changeLevel l (withRows n m s rowsUnnamed) S₀
       → S′ ≡ changeLevel l (withRow m s n (rowUnnamed d r P c S l s (S l .rows s n))) S → S′ ≡ changeLevel l (withRows (n + 1) m s rowsUnnamed) S₀
   references-more n m apart lower {S} p q =
-      rows-more l n m s rowsUnnamed (rowUnnamed d r P c S l s (S l .rows s n)) S₀ p q
+      rows-more l n m s rowsUnnamed S₀ p q
       (unnamed-same d r P c S S₀ l s
       (record { own = rw p (change-other l c (withRows n m s rowsUnnamed) S₀ apart); named = rw (p, change-here) (rows-other n m r rowsUnnamed (S₀ l) (λ e. omega arith)) })
-      (S l .rows s n) (S₀ l .rows s n) (rw (p, change-here) (rows-later n m rowsUnnamed (S₀ l))))
+      (S l .rows s n) (S₀ l .rows s n) (rw (p, change-here) (rows-next n m s rowsUnnamed (S₀ l))))

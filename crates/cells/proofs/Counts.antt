@@ -1,24 +1,36 @@
--- The numbers of a relation of a sound description, and that sums of them stay small.
+-- The numbers of a relation of a sound description, the relation that it refers to, and that sums of the numbers stay small.
 -- Assumes nothing.
-use Prim.Native.Nat.{ℕ, zero, suc, _+_, _*_, _≤_, _<_}
+use Prim.Native.Nat.{ℕ, suc, _+_, _*_, _≤_, _<_}
 use mathlib.Core.Bool.{true}
-use mathlib.Core.Path.{_≡_, refl, sym, ap, _∙_}
+use mathlib.Core.Path.{_≡_, refl}
+use mathlib.Core.Logic.{_≢_}
 use native.Mathlib.Nat.{mul-le-mul, le-trans}
 use native.Mathlib.Omega.{arith}
 use lib.ListN.{getD}
-use Rattle.bounded.specs.Tests.{if_then_else_}
 use Rattle.bounded.specs.Bounded.{sumBelow}
 use Rattle.bounded.proofs.Sum.{sum-next, sum-mono}
 use Rattle.bounded.proofs.Reflection.{is-true, of-true}
 use Rattle.model.specs.declared.Description.{Description}
-use Rattle.model.specs.Description.{between, sound, isRelation, ofRelation, rowCount, columnCount, sizeOf, startOf, totalOf}
-use Rattle.model.proofs.Sound.{relation-r, Sound, sound-r, relation-of}
+use Rattle.model.specs.Description.{between, sound, isRelation, ofRelation, rowCount, columnCount, foreignOf, refersOf, sizeOf, startOf, totalOf}
+use Rattle.model.proofs.Sound.{relation-r, Sound, Relation, Reference, sound-r, relation-of}
+use Rattle.cells.specs.Layout.{InLevel}
+
+pub foreign-is : (d : Description) (r : ℕ) → isRelation d r ≡ true → getD (d .foreign) r 0 ≡ foreignOf d r
+unfolding foreignOf ofRelation
+foreign-is d r h = rw h
+
+pub refers-is : (d : Description) (r : ℕ) → isRelation d r ≡ true → getD (d .refers) r 0 ≡ refersOf d r
+unfolding refersOf ofRelation
+refers-is d r h = rw h
 
 module _ (d : Description) (s : sound d ≡ true) where
   pub sound-says : Sound d
   sound-says = of-true (sound-r d) s
 
   module _ (r : ℕ) (h : isRelation d r ≡ true) where
+    pub relation-is : Relation d r
+    relation-is = relation-of d sound-says r h
+
     pub relation-few : r ≤ 8
     relation-few = omega (arith, of-true (relation-r d r) h .1, sound-says .few-relations)
 
@@ -31,16 +43,28 @@ module _ (d : Description) (s : sound d ≡ true) where
     column-count = rw h
 
     pub rows-few : rowCount d r ≤ 64
-    rows-few = relation-of d sound-says r h .few
+    rows-few = relation-is .few
 
     pub columns-few : columnCount d r ≤ 8
-    columns-few = relation-of d sound-says r h .narrow
+    columns-few = relation-is .narrow
 
     pub rows-small : d .levels * rowCount d r ≤ 1024
     rows-small = mul-le-mul (sound-says .few-levels) rows-few
 
     pub size-small : d .levels * rowCount d r * columnCount d r ≤ 8192
     size-small = mul-le-mul rows-small columns-few
+
+    pub in-level : (l : ℕ) → l < d .levels → InLevel d r l
+    in-level l g = record { relation = omega (arith, of-true (relation-r d r) h .1); level = g; keyed = relation-is .keyed }
+
+    -- the relation that it refers to
+    pub refers-relation : foreignOf d r ≢ 0 → isRelation d (refersOf d r) ≡ true
+    refers-relation n =
+        let f : Reference d r = relation-is .referring n in
+        is-true (relation-r d (refersOf d r)) (f .some, omega (arith, f .lower, of-true (relation-r d r) h .1))
+
+    pub target-relation : foreignOf d r ≢ 0 → isRelation d (getD (d .refers) r 0) ≡ true
+    target-relation n = rw (refers-is d r h) (refers-relation n)
 
     -- what is before a relation, and the relation, are part of the whole
     pub start-small : startOf d r + sizeOf d r ≤ 8192

@@ -65,7 +65,7 @@ unfolding fitting
 fits d xs ys h g = is-true (and-r (eqb-r (length xs) (totalOf d)) (eqb-r (length ys) (totalOf d))) (h, g)
 
 -- buffers of the right lengths that hold the same tables are the same
-one-buffers : (d : Description) (vs cs us ds : List ℕ) → length vs ≡ totalOf d → length cs ≡ totalOf d → length us ≡ totalOf d → length ds ≡ totalOf d
+pub one-buffers : (d : Description) (vs cs us ds : List ℕ) → length vs ≡ totalOf d → length cs ≡ totalOf d → length us ≡ totalOf d → length ds ≡ totalOf d
     → stateOf d (holding vs cs) ≡ stateOf d (holding us ds) → holding vs cs ≡ holding us ds
 one-buffers d vs cs us ds hv hc hu hd e =
     sym (buffers-state d (holding vs cs) (fits d vs cs hv hc)) ∙ ap (buffersOf d) e ∙ buffers-state d (holding us ds) (fits d us ds hu hd)

@@ -4,26 +4,20 @@ use Prim.Native.Nat.{ℕ, zero, suc, _+_, _≤_, _<_}
 use mathlib.Core.Path.{_≡_, refl, sym, ap, _∙_, fun-ext}
 use mathlib.Core.Bool.{Bool, true, false, _&&_}
 use mathlib.Core.List.{List, [], _∷_}
-use native.Mathlib.Numerals.{add-one}
 use native.Mathlib.Omega.{arith}
 use lib.Dec.{eqb, ltb}
 use borrow.Author.Tests.{eq-eqb, ne-eqb, lt-ltb, le-ltb, eqb-true}
 use Rattle.bounded.specs.Tests.{if_then_else_}
-use Rattle.bounded.specs.Bounded.{allBelow}
-use Rattle.bounded.proofs.Cases.{cases, order, at-end}
+use Rattle.bounded.proofs.Cases.{cases, order}
 use Rattle.bounded.proofs.Reflection.{is-true, is-false, of-true, of-false}
 use Rattle.model.specs.declared.Description.{Description}
 use Rattle.model.specs.Description.{between, rowCount}
-use Rattle.model.specs.Tables.{Cell, Row, cell, nocell, same, Level, State}
-use Rattle.model.specs.Buffers.{stateOf}
+use Rattle.model.specs.Tables.{Row, nocell, Level, State}
 use Rattle.model.proofs.Sound.{between-r}
-use Rattle.cells.specs.Changed.{holding, valueAt, classAt, keyPlace, entityPlace, withCell, withRow, changeLevel, listedRow}
-use Rattle.cells.proofs.Cells.{state-cell, state-path}
+use Rattle.cells.specs.Changed.{classAt, keyPlace, entityPlace, withCell, withRow, changeLevel, listedRow}
+use Rattle.cells.proofs.Changes.{level-path, change-same, change-twice}
 
 -- ---- a row, cell after cell
-
-level-path : {B C : Level} → ((r i k : ℕ) → B .rows r i k ≡ C .rows r i k) → B ≡ C
-level-path h = ap (λ (D : ℕ → ℕ → Row). record { rows = D }) (fun-ext (λ r. fun-ext (λ i. fun-ext (λ k. h r i k))))
 
 row-none : (r i : ℕ) (R : Row) (B : Level) → withRow 0 r i R B ≡ B
 unfolding withRow
@@ -52,14 +46,6 @@ row-turn n r i R B =
     (λ u. rw (t, u)))
     (λ t. rw t))
 
-change-same : (l : ℕ) (f : Level → Level) (S : State) → f (S l) ≡ S l → S ≡ changeLevel l f S
-unfolding changeLevel
-change-same l f S e = fun-ext (λ m. cases (eqb l m) (λ q. rw (← (eqb-true l m q), eq-eqb l l refl) (sym e)) (λ q. rw q))
-
-change-twice : (l : ℕ) (f g : Level → Level) (S : State) → changeLevel l f (changeLevel l g S) ≡ changeLevel l (λ B. f (g B)) S
-unfolding changeLevel
-change-twice l f g S = fun-ext (λ m. cases (eqb l m) (λ q. rw q) (λ q. rw q))
-
 pub row-start : (l r i : ℕ) (R : Row) (S : State) → S ≡ changeLevel l (withRow 0 r i R) S
 row-start l r i R S = change-same l (withRow 0 r i R) S (row-none r i R (S l))
 
@@ -72,18 +58,29 @@ pub row-end : (l n m r i : ℕ) (R : Row) (S₀ : State) {S : State} → S ≡ c
 row-end l n m r i R S₀ {S} p e = rw e at p
 
 -- two rows that agree on the columns are stored alike
-rows-alike : (n r i : ℕ) (R Q : Row) → ((k : ℕ) → k ≤ n → R k ≡ Q k) → (B : Level) → withRow n r i R B ≡ withRow n r i Q B
+rows-alike : (n r i : ℕ) (R Q : Row) → ((k : ℕ) → 0 < k → k ≤ n → R k ≡ Q k) → (B : Level) → withRow n r i R B ≡ withRow n r i Q B
 unfolding withRow
 rows-alike n r i R Q e B =
     level-path (λ s j m.
     cases (eqb r s)
     (λ t. cases (eqb i j)
-    (λ u. cases (between 1 n m) (λ w. rw (t, u, w) (e m (of-true (between-r 1 n m) w .1))) (λ w. rw (t, u, w)))
+    (λ u. cases (between 1 n m) (λ w. let g = of-true (between-r 1 n m) w in rw (t, u, w) (e m (g .0) (g .1))) (λ w. rw (t, u, w)))
     (λ u. rw (t, u)))
     (λ t. rw t))
 
-pub row-as : (l n r i : ℕ) (R Q : Row) (S : State) → ((k : ℕ) → k ≤ n → R k ≡ Q k) → changeLevel l (withRow n r i R) S ≡ changeLevel l (withRow n r i Q) S
+pub row-as : (l n r i : ℕ) (R Q : Row) (S : State) → ((k : ℕ) → 0 < k → k ≤ n → R k ≡ Q k) → changeLevel l (withRow n r i R) S ≡ changeLevel l (withRow n r i Q) S
 row-as l n r i R Q S e = ap (λ (f : Level → Level). changeLevel l f S) (fun-ext (rows-alike n r i R Q e))
+
+-- a row stored as it was
+pub row-same : (n r i : ℕ) (R : Row) (B : Level) → ((k : ℕ) → R k ≡ B .rows r i k) → withRow n r i R B ≡ B
+unfolding withRow
+row-same n r i R B e =
+    level-path (λ s j k.
+    cases (eqb r s)
+    (λ t. cases (eqb i j)
+    (λ u. cases (between 1 n k) (λ w. rw (t, u, w, ← (eqb-true r s t), ← (eqb-true i j u)) (e k)) (λ w. rw (t, u, w)))
+    (λ u. rw (t, u)))
+    (λ t. rw t))
 
 -- nine nulls are an empty row
 pub nulls-empty : (k : ℕ) → k ≤ 8 → listedRow (0 ∷ 0 ∷ 0 ∷ 0 ∷ 0 ∷ 0 ∷ 0 ∷ 0 ∷ 0 ∷ []) (255 ∷ 255 ∷ 255 ∷ 255 ∷ 255 ∷ 255 ∷ 255 ∷ 255 ∷ 255 ∷ []) k ≡ nocell

@@ -44,14 +44,14 @@ pub fn put_value(
     level: usize,
     row: usize,
     column: usize,
-    value: u32,
+    number: u32,
 )
     requires { ⌜ Sized description relation part (length (now values)) ⌝ }
     requires { ⌜ inside description relation level row column ≡ true ⌝ }
-    ensures { λ _. ⌜ ((classes : List ℕ) → stateOf description (holding (now (values .exit)) classes) ≡ changeLevel level (withValue relation row column value) (stateOf description (holding (now (values .entry)) classes))) ⌝ }
+    ensures { λ _. ⌜ ((classes : List ℕ) → stateOf description (holding (now (values .exit)) classes) ≡ changeLevel level (withValue relation row column number) (stateOf description (holding (now (values .entry)) classes))) ⌝ }
 {
     let at = place(description, relation, part, level, row, column);
-    values[at] = value;
+    values[at] = number;
 }
 
 // A row comes into use: it becomes these cells, by column.

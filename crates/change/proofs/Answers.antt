@@ -11,19 +11,17 @@ use lib.Dec.{eqb}
 use lib.ListN.{length}
 use borrow.Author.Tests.{eq-eqb, ne-eqb}
 use Rattle.bounded.proofs.Cases.{cases}
-use Rattle.bounded.proofs.Reflection.{is-true, and-r, eqb-r}
 use Rattle.model.specs.declared.Description.{Description}
 use Rattle.model.specs.declared.Fault.{Fault}
 use Rattle.model.specs.declared.Answer.{Answer}
 use Rattle.model.specs.Description.{over, foreignOf, refersOf, totalOf}
 use Rattle.model.specs.Tables.{Row, Tables, State, rowsOf, seen, same, at}
-use Rattle.model.specs.Buffers.{fitting, stateOf, buffersOf}
 use Rattle.model.specs.Listed.{listed}
 use Rattle.model.specs.Effect.{Effect, Above, keep, changed, goneAt, reach, carry, applied, namesRow}
 use Rattle.model.specs.Insert.{listedNames}
 use Rattle.model.specs.Run.{firstFault, left}
-use Rattle.model.proofs.Border.{buffers-state}
 use Rattle.cells.specs.Changed.{holding}
+use Rattle.cells.proofs.Settled.{one-buffers}
 use Rattle.theory.proofs.Seen.{seen-at}
 use Rattle.change.specs.Facts.{Answered, refuses, does}
 
@@ -90,16 +88,6 @@ module _ (d : Description) (c : ℕ) (E : Effect) (S : State) where
       (λ o. left-other r l i k m o)
 
 -- ---- at most one outcome
-
-fits : (d : Description) (xs ys : List ℕ) → length xs ≡ totalOf d → length ys ≡ totalOf d → fitting d (holding xs ys) ≡ true
-unfolding fitting
-fits d xs ys h g = is-true (and-r (eqb-r (length xs) (totalOf d)) (eqb-r (length ys) (totalOf d))) (h, g)
-
--- buffers of the right lengths that hold the same tables are the same
-one-buffers : (d : Description) (vs cs us ds : List ℕ) → length vs ≡ totalOf d → length cs ≡ totalOf d → length us ≡ totalOf d → length ds ≡ totalOf d
-    → stateOf d (holding vs cs) ≡ stateOf d (holding us ds) → holding vs cs ≡ holding us ds
-one-buffers d vs cs us ds hv hc hu hd e =
-    sym (buffers-state d (holding vs cs) (fits d vs cs hv hc)) ∙ ap (buffersOf d) e ∙ buffers-state d (holding us ds) (fits d us ds hu hd)
 
 -- two answers and two pairs of buffers that are what a statement promises are the same, where the buffers keep their lengths
 pub one-answered : (d : Description) (c : ℕ) (tests : List (Bool × Fault)) (n : ℕ) (E : Effect) (vs cs us ds us′ ds′ : List ℕ) (a b : Answer)

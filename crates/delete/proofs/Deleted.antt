@@ -27,6 +27,7 @@ use Rattle.model.proofs.Sound.{between-r}
 use Rattle.cells.specs.declared.layout.Part.{Part}
 use Rattle.cells.specs.Changed.{holding, valueAt, keyPlace, changeLevel}
 use Rattle.cells.proofs.Cells.{state-cell}
+use Rattle.cells.proofs.Sought.{place-key}
 use Rattle.conditions.specs.Facts.{Marked, Counted, metAt}
 use Rattle.above.specs.declared.Plan.{Plan}
 use Rattle.above.specs.Facts.{markedAt, changeOf, aboveOf, carried, withRows, Working, Planned}
@@ -35,8 +36,8 @@ use Rattle.theory.proofs.Seen.{seen-own}
 use Rattle.change.specs.Facts.{Standing, Deletes, refuses, does, sight, metRows}
 use Rattle.marks.specs.Marking.{Chosen, rowMarked, emptyMarked, namesMarked, rowRefers, refersMarked, referredMarked}
 use Rattle.change.proofs.Answers.{first-fails, first-passes, first-none}
-use Rattle.change.proofs.Known.{sounds, relation-is, own-over}
-use Rattle.change.proofs.Sought.{place-key}
+use Rattle.cells.proofs.Counts.{sound-says, relation-is}
+use Rattle.change.proofs.Known.{own-over}
 use Rattle.marks.proofs.Carrying.{left-planned, own-marked, marked-met, mark-met, count-met, working}
 
 -- ---- the plan
@@ -71,10 +72,10 @@ module _ (P : Plan) (N : Nulling P) where
     column-few : (l i k : ℕ) → S l .rows r i k .class ≡ c → k < 9
     column-few l i k e =
         cases (between 1 (columnCount d r) k)
-        (λ t. omega (arith, of-true (between-r 1 (columnCount d r) k) t .1, relation-is d r (W .sound-is) (W .relation) .narrow))
+        (λ t. omega (arith, of-true (between-r 1 (columnCount d r) k) t .1, relation-is d (W .sound-is) r (W .relation) .narrow))
         (λ t.
         let z : _≡_ {A = ℕ} 255 c = sym (ap (λ (x : Cell). x .class) (W .beyond r l i k t)) ∙ e in
-        absurd (omega (arith, z, W .level, sounds d r (W .sound-is) (W .relation) .few-levels)))
+        absurd (omega (arith, z, W .level, sound-says d (W .sound-is) .few-levels)))
 
     changed-is : (s l i k : ℕ) → S l .rows s i k .class ≡ c → aboveOf d c r P B .change s (S l .rows s i 1 .value) k ≡ E .above .change s (S l .rows s i 1 .value) k
     unfolding aboveOf emptyMarked

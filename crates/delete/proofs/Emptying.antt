@@ -18,7 +18,7 @@ use Rattle.model.proofs.Border.{inside-shown}
 use Rattle.cells.specs.Changed.{valueAt, keyPlace}
 use Rattle.change.specs.Facts.{Naming}
 use Rattle.marks.specs.Marking.{namesMarked, rowRefers, refersMarked, referredMarked}
-use Rattle.change.proofs.Known.{relation-is, in-level}
+use Rattle.cells.proofs.Counts.{relation-is, in-level}
 
 module _ (d : Description) (vs : List ℕ) (marks : List Bool) (r c : ℕ) where
   -- ---- a key
@@ -79,7 +79,7 @@ module _ (d : Description) (vs : List ℕ) (marks : List Bool) (r c : ℕ) where
 -- the cell of a reference
 pub reference-inside : (d : Description) (r s c n : ℕ) → Naming d s c n → 0 < r → refersOf d s ≡ r → (i : ℕ) → i < rowCount d s → inside d s c i (foreignOf d s) ≡ true
 reference-inside d r s c n N p e i h =
-    let R = relation-is d s (N .sound-is) (N .relation) in
+    let R = relation-is d (N .sound-is) s (N .relation) in
     let F : Reference d s = R .referring (λ z. omega (arith, R .unreferring z, e)) in
-    let L = in-level d s (N .sound-is) (N .relation) c (N .level) in
+    let L = in-level d (N .sound-is) s (N .relation) c (N .level) in
     inside-shown d s c i (foreignOf d s) (record { relation = L .relation; level = L .level; row = h; least = omega (arith, F .after-key); column = F .column })

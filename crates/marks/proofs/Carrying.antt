@@ -30,10 +30,10 @@ use Rattle.theory.proofs.Reach.{Side, at-c, over-c, off-c, side}
 use Rattle.cells.specs.declared.layout.Part.{Part}
 use Rattle.cells.specs.Changed.{holding, changeLevel}
 use Rattle.cells.proofs.Cells.{state-path}
+use Rattle.cells.proofs.Changes.{change-here, change-other}
 use Rattle.conditions.specs.Facts.{Marked, Counted, metAt}
 use Rattle.above.specs.declared.Plan.{Plan}
 use Rattle.above.specs.Facts.{markedAt, aboveOf, carried, withRows, Working}
-use Rattle.above.proofs.Changes.{change-here, change-other}
 use Rattle.above.proofs.Carried.{carried-own, carried-aside, carried-cell}
 use Rattle.change.specs.Facts.{Standing}
 use Rattle.marks.specs.Marking.{Chosen, rowMarked}

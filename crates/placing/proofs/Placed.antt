@@ -1,47 +1,28 @@
 -- A record of kind 3: its tests in their order, and the buffers that it leaves.
 -- Assumes nothing.
 use Prim.Native.Nat.{ℕ, _+_, _*_, _≤_, _<_}
-use mathlib.Core.Path.{_≡_, refl, sym, ap, ap₂, _∙_, fun-ext}
+use mathlib.Core.Path.{_≡_, refl, sym, ap, ap₂, _∙_}
 use mathlib.Core.Bool.{Bool, true, false, _&&_}
 use mathlib.Core.List.{List}
 use mathlib.Core.Logic.{_≢_}
 use lib.Dec.{eqb, ltb}
 use lib.ListN.{length}
 use borrow.Author.Tests.{eq-eqb, ne-eqb, lt-ltb, le-ltb, ltb-true}
-use Rattle.bounded.specs.Tests.{if_then_else_}
 use Rattle.bounded.proofs.Cases.{and-left, and-right}
 use Rattle.bounded.proofs.Reflection.{is-true, of-true, and-r, eqb-r}
 use Rattle.model.specs.declared.Description.{Description}
-use Rattle.model.specs.Description.{between, isLevel, isRelation, columnCount, rowCount, totalOf, sound}
-use Rattle.model.specs.Tables.{Cell, Row, cell, Level, State}
+use Rattle.model.specs.Description.{isLevel, isRelation, columnCount, rowCount, totalOf, sound}
+use Rattle.model.specs.Tables.{cell, State}
 use Rattle.model.specs.Buffers.{Buffers, fitting, stateOf, buffersOf}
 use Rattle.model.specs.Effect.{lowestEmpty, hasRoom}
-use Rattle.model.proofs.Sound.{between-r}
 use Rattle.model.proofs.Border.{buffers-state}
 use Rattle.cells.specs.declared.layout.Part.{Part}
 use Rattle.cells.specs.Layout.{Laid, Lent, InLevel}
 use Rattle.cells.specs.Changed.{holding, listedRow, withRow, changeLevel}
+use Rattle.cells.proofs.Written.{row-as}
 use Rattle.change.specs.Facts.{Filled}
-use Rattle.change.proofs.Known.{in-level}
+use Rattle.cells.proofs.Counts.{in-level}
 use Rattle.placing.specs.Placing.{relation, level, rowRead, smallClasses, wellShaped, placeable, withPlaced, placed, Places}
-
--- ---- one row for another that has the same cells
-
-if-same : (a b c : Bool) (x y z : Cell) → (c ≡ true → x ≡ y) → (if a && (b && c) then x else z) ≡ (if a && (b && c) then y else z)
-if-same true true true x y z h = h refl
-if-same true true false x y z h = refl
-if-same true false c x y z h = refl
-if-same false b c x y z h = refl
-
-with-same : (n r i : ℕ) (R Q : Row) → ((k : ℕ) → 0 < k → k ≤ n → R k ≡ Q k) → (B : Level) → withRow n r i R B ≡ withRow n r i Q B
-unfolding withRow
-with-same n r i R Q h B =
-    ap (λ (C : ℕ → ℕ → Row). record { rows = C })
-    (fun-ext (λ s. fun-ext (λ j. fun-ext (λ k.
-    if-same (eqb r s) (eqb i j) (between 1 n k) (R k) (Q k) (B .rows s j k) (λ t. let q = of-true (between-r 1 n k) t in h k (q .0) (q .1))))))
-
-change-same : (l : ℕ) (f g : Level → Level) (S : State) → ((B : Level) → f B ≡ g B) → changeLevel l f S ≡ changeLevel l g S
-change-same l f g S h = ap (λ (k : Level → Level). changeLevel l k S) (fun-ext h)
 
 -- ---- the tests in their order
 
@@ -104,7 +85,7 @@ module _ (d : Description) (bytes vs cs : List ℕ) {r l : ℕ} (x : r ≡ relat
           module _ {p : Part} (L : Laid d r p) where
             -- what is told of the buffers and the level
             pub standing : Lent d r p (length vs) (length cs) × InLevel d r l
-            standing = (record { laid = L; values = sizes .0; classes = sizes .1 }, in-level d r sound-is relation-is l level-is)
+            standing = (record { laid = L; values = sizes .0; classes = sizes .1 }, in-level d sound-is r relation-is l level-is)
 
             asked-shape : placeable d b bytes ≡ ((eqb (length bytes) (8 + 6 * p .columns) && smallClasses (p .columns) bytes) && room)
             asked-shape = asked ∙ rw (← e, t, ← h, u, L .columns)
@@ -137,8 +118,7 @@ module _ (d : Description) (bytes vs cs : List ℕ) {r l : ℕ} (x : r ≡ relat
                   unfolding withPlaced
                   tables-are =
                       rw (← x, ← y, ← q)
-                      (change-same l (withRow (columnCount d r) r row (listedRow news owners)) (withRow (columnCount d r) r row (rowRead bytes)) S
-                      (with-same (columnCount d r) r row (listedRow news owners) (rowRead bytes) row-is))
+                      (row-as l (columnCount d r) r row (listedRow news owners) (rowRead bytes) S row-is)
 
                   pub place-done : row < p .rows → {us ds : List ℕ}
                       → stateOf d (holding us ds) ≡ changeLevel l (withRow (columnCount d r) r row (listedRow news owners)) S

@@ -26,12 +26,12 @@ use Rattle.model.specs.Listed.{whole, pairs, columnAt, secondAt, each, listed, 
 use Rattle.model.specs.Update.{updateFormed, setIn}
 use Rattle.model.proofs.Sound.{between-r}
 use Rattle.cells.specs.Changed.{withCell, withRow, changeLevel}
+use Rattle.cells.proofs.Written.{row-same}
+use Rattle.cells.proofs.Changes.{level-path, change-same, change-on}
 use Rattle.asked.specs.declared.pairs.Rule.the-variants as Rules
 use Rattle.asked.specs.Facts.{Found, ruleOf}
-use Rattle.above.proofs.Changes.{level-path, change-same, change-on}
 use Rattle.change.specs.Facts.{valueListed}
 use Rattle.marks.specs.Marking.{Listing, ByColumn, kindListed}
-use Rattle.marks.proofs.Marking.{row-itself}
 
 -- ---- a column among the first pairs
 
@@ -169,7 +169,7 @@ pub set-start : (m r i c : ℕ) (list : List ℕ) (S : State) → S ≡ changeLe
 unfolding setBelow
 set-start m r i c list S =
     change-same c (withRow m r i (setBelow 0 c list (S c .rows r i))) S
-    (row-itself m r i (setBelow 0 c list (S c .rows r i)) (S c) (λ k. among-none list k (λ v. cell v c) (S c .rows r i k)))
+    (row-same m r i (setBelow 0 c list (S c .rows r i)) (S c) (λ k. among-none list k (λ v. cell v c) (S c .rows r i k)))
 
 -- one more cell of a row
 cell-more : (m r i k : ℕ) (x : Cell) (Q R : Row) (B : Level) → between 1 m k ≡ true → R k ≡ x → ((j : ℕ) → k ≢ j → R j ≡ Q j) → withCell r i k x (withRow m r i Q B) ≡ withRow m r i R B

@@ -13,17 +13,17 @@ use Rattle.bounded.proofs.Cases.{cases}
 use Rattle.bounded.proofs.Reflection.{is-true, is-false, of-true}
 use Rattle.model.specs.declared.Description.{Description}
 use Rattle.model.specs.Description.{over, rowCount, sound}
-use Rattle.model.specs.Tables.{Cell, Row, cell, same, State, rowsOf, seen, place, seek, at, lends}
+use Rattle.model.specs.Tables.{Cell, Row, cell, same, State, rowsOf, seen, place, at, lends}
 use Rattle.model.specs.Buffers.{stateOf}
 use Rattle.model.specs.Uplevel.{based}
 use Rattle.cells.specs.Changed.{holding, valueAt, classAt, keyPlace, entityPlace}
 use Rattle.cells.proofs.Cells.{state-cell}
+use Rattle.cells.proofs.Sought.{place-key, at-row, at-there, at-nowhere}
 use Rattle.cells.proofs.Written.{entity-nowhere, entity-here, entity-other}
 use Rattle.model.proofs.Sound.{sound-r}
 use Rattle.theory.proofs.Described.{sound-laws}
 use Rattle.theory.proofs.Fine.{same-r, value-of, class-of, lends-yes, lends-no}
 use Rattle.theory.proofs.Seen.{seen-at}
-use Rattle.change.proofs.Sought.{place-key, at-there, at-nowhere}
 
 -- a level that is dominated is one of 16
 pub level-few : (d : Description) → sound d ≡ true → (c a : ℕ) → over d c a ≡ true → (a < d .levels) × (a < 16)
@@ -32,11 +32,6 @@ level-few d s c a h = let g = sound-laws d s .within c a h .1 in (g, omega (arit
 module _ (d : Description) (vs cs : List ℕ) where
   abbrev S : State
   S = stateOf d (holding vs cs)
-
-  -- the row found by key is the row of that number
-  at-row : (r l v : ℕ) {i : ℕ} → i ≡ keyPlace d vs r l v → i < rowCount d r → at d (rowsOf S) r l v ≡ S l .rows r i
-  unfolding at seek
-  at-row r l v {i} e h = rw (place-key d vs cs r l v, ← e, lt-ltb i (rowCount d r) h)
 
   module _ (r l v c : ℕ) where
     -- a search for the entity comes to its row, or to the number of rows where there is none
@@ -53,7 +48,7 @@ module _ (d : Description) (vs cs : List ℕ) where
         found : keyPlace d vs r l v < rowCount d r → classAt d cs r l (keyPlace d vs r l v) 1 ≡ c → Entity i
         found h q =
             let p : i ≡ keyPlace d vs r l v = e ∙ entity-here d vs cs r l v c h refl q in
-            here (rw p h) (p ∙ sym (place-key d vs cs r l v)) (at-there d vs cs r l v refl h ∙ ap (cell v) q) (at-row r l v p (rw p h))
+            here (rw p h) (p ∙ sym (place-key d vs cs r l v)) (at-there d vs cs r l v refl h ∙ ap (cell v) q) (at-row d vs cs r l v p (rw p h))
 
         other : keyPlace d vs r l v < rowCount d r → (classAt d cs r l (keyPlace d vs r l v) 1 ≡ c → ⊥) → Entity i
         other h n = missing (e ∙ entity-other d vs cs r l v c refl n) (λ q. n (class-of (sym (at-there d vs cs r l v refl h) ∙ q)))

@@ -34,14 +34,15 @@ use Rattle.theory.proofs.Seen.{seen-own}
 use Rattle.cells.specs.declared.layout.Part.{Part}
 use Rattle.cells.specs.Changed.{holding, entityPlace, listedRow, withRow, changeLevel}
 use Rattle.cells.proofs.Cells.{state-path}
+use Rattle.cells.proofs.Changes.{change-here, change-other}
 use Rattle.above.specs.Facts.{Working, Planned, markedAt, changeOf, aboveOf, carried}
 use Rattle.above.proofs.Carried.{carried-own, carried-aside, carried-cell}
-use Rattle.above.proofs.Changes.{change-here, change-other}
 use Rattle.uplevel.specs.declared.News.{News}
 use Rattle.change.specs.Facts.{Standing}
 use Rattle.uplevel.specs.Raising.{planOf, spotOf, Listing, Composed}
 use Rattle.change.proofs.Answers.{left-own, left-over, left-other}
-use Rattle.change.proofs.Known.{relation-is, own-over}
+use Rattle.cells.proofs.Counts.{relation-is}
+use Rattle.change.proofs.Known.{own-over}
 use Rattle.uplevel.proofs.Entities.{entity-is, entity-place}
 use Rattle.uplevel.proofs.Borrowing.{listed-column}
 
@@ -295,5 +296,5 @@ module _ {d : Description} {order : List (List Bool)} {r c : ℕ} {p : Part} {vs
         q
         ∙ left-by d order r c S (working St) (cell key class) R row there news there-is spot-is (omega (arith, St .laid .few, St .laid .rows)) in-rows cell-right
         (omega (arith, St .laid .narrow, St .laid .columns))
-        (raised-beyond d c r (cell key class) list (at d (rowsOf (seen d c S))) (relation-is d r (St .sound-is) (St .relation) .keyed) (L .columns))
+        (raised-beyond d c r (cell key class) list (at d (rowsOf (seen d c S))) (relation-is d (St .sound-is) r (St .relation) .keyed) (L .columns))
         ∙ seen-is

@@ -6,10 +6,10 @@ use native.Mathlib.Omega.{arith}
 use borrow.Author.Needs.{needs}
 use Rattle.bounded.specs.Bounded.{anyBelow}
 use Rattle.bounded.proofs.Any.{any-more}
-use Rattle.bounded.proofs.Reflection.{is-true}
+use Rattle.bounded.proofs.Reflection.{is-true, of-true}
 use Rattle.model.proofs.Sound.{relation-r}
 use Rattle.marks.specs.Marking.{refersMarked}
-use Rattle.change.proofs.Known.{sounds, relation-some}
+use Rattle.cells.proofs.Counts.{sound-says}
 use Rattle.delete.proofs.Emptying.{referred-start, referred-here, referred-none}
 use Rattle.delete.proofs.referred.Statement.{statement}
 use Rattle.delete.proofs.referred.Tie as tie
@@ -33,7 +33,7 @@ refers-requires c κs =
       s .pre .0,
       (
         record { sound-is = s .pre .1 .sound-is; relation = is-true (relation-r _ _) (l .inv .0, c .loop-test .taken); level = s .pre .1 .level; long = s .pre .1 .long },
-        relation-some _ _ (s .pre .1 .sound-is) (s .pre .1 .relation),
+        of-true (relation-r _ _) (s .pre .1 .relation) .0,
       ),
     )
 
@@ -43,7 +43,7 @@ returns c = referred-here _ _ _ _ _ _ (c .before .refers .ensures) (c .if1 .take
 add-at : tie.Need-add-at Inv-loop μ-loop
 add-at c =
     let s = c .before .before .before .before .before .before in
-    omega (arith, c .before .before .loop-test .taken, sounds _ _ (s .pre .1 .sound-is) (s .pre .1 .relation) .few-relations)
+    omega (arith, c .before .before .loop-test .taken, sound-says _ (s .pre .1 .sound-is) .few-relations)
 
 loop-less : tie.Need-loop-less Inv-loop μ-loop
 loop-less c = omega arith

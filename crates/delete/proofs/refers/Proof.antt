@@ -7,7 +7,7 @@ use borrow.Author.Needs.{needs}
 use Rattle.bounded.specs.Bounded.{anyBelow}
 use Rattle.bounded.proofs.Any.{any-start, any-more}
 use Rattle.marks.specs.Marking.{rowRefers}
-use Rattle.change.proofs.Known.{relation-few, foreign-is, refers-is}
+use Rattle.cells.proofs.Counts.{relation-few, foreign-is, refers-is}
 use Rattle.delete.proofs.Emptying.{refers-other, row-refers, refers-here, refers-none, reference-inside}
 use Rattle.delete.proofs.refers.Statement.{statement}
 use Rattle.delete.proofs.refers.Tie as tie
@@ -19,10 +19,10 @@ abbrev μ-loop : tie.MeasureT-loop
 μ-loop values referrer relation part marks level description place column rows row₀ row = rows - row
 
 mul-if1 : tie.Need-mul-if1 Inv-loop μ-loop
-mul-if1 c = let s = c .before in omega (arith, relation-few _ _ (s .pre .1 .0 .sound-is) (s .pre .1 .0 .relation))
+mul-if1 c = let s = c .before in omega (arith, relation-few _ (s .pre .1 .0 .sound-is) _ (s .pre .1 .0 .relation))
 
 element-copy-out-if1 : tie.Need-element-copy-out-if1 Inv-loop μ-loop
-element-copy-out-if1 c = let s = c .before in omega (arith, relation-few _ _ (s .pre .1 .0 .sound-is) (s .pre .1 .0 .relation))
+element-copy-out-if1 c = let s = c .before in omega (arith, relation-few _ (s .pre .1 .0 .sound-is) _ (s .pre .1 .0 .relation))
 
 cast-if1 : tie.Need-cast-if1 Inv-loop μ-loop
 cast-if1 c = search needs
@@ -30,16 +30,16 @@ cast-if1 c = search needs
 returns : tie.Need-returns Inv-loop μ-loop
 returns c =
     let s = c .before .before .before in
-    refers-other _ _ _ _ _ _ (λ e. c .if1 .taken (refers-is _ _ (s .pre .1 .0 .sound-is) (s .pre .1 .0 .relation) ∙ e))
+    refers-other _ _ _ _ _ _ (λ e. c .if1 .taken (refers-is _ _ (s .pre .1 .0 .relation) ∙ e))
 
 lay-requires : tie.Need-lay-requires Inv-loop μ-loop
 lay-requires c κs = let s = c .before .before .before in (s .pre .1 .0 .sound-is, s .pre .1 .0 .relation)
 
 mul-column : tie.Need-mul-column Inv-loop μ-loop
-mul-column c = let s = c .before .before .before .before in omega (arith, relation-few _ _ (s .pre .1 .0 .sound-is) (s .pre .1 .0 .relation))
+mul-column c = let s = c .before .before .before .before in omega (arith, relation-few _ (s .pre .1 .0 .sound-is) _ (s .pre .1 .0 .relation))
 
 element-copy-out-column : tie.Need-element-copy-out-column Inv-loop μ-loop
-element-copy-out-column c = let s = c .before .before .before .before in omega (arith, relation-few _ _ (s .pre .1 .0 .sound-is) (s .pre .1 .0 .relation))
+element-copy-out-column c = let s = c .before .before .before .before in omega (arith, relation-few _ (s .pre .1 .0 .sound-is) _ (s .pre .1 .0 .relation))
 
 cast-column : tie.Need-cast-column Inv-loop μ-loop
 cast-column c = search needs
@@ -53,7 +53,7 @@ value-at-requires c κs =
     let s = a .before .before .before .before in
     let k = s .pre .1 .0 in (
       record { laid = a .lay .ensures; size = k .long },
-      rw (foreign-is _ _ (k .sound-is) (k .relation)) (reference-inside _ _ _ _ _ k (s .pre .1 .1) (sym (refers-is _ _ (k .sound-is) (k .relation)) ∙ a .before .if1 .left) (c .before .loop .row) (omega (arith, a .lay .ensures .rows, c .loop-test .taken))),
+      rw (foreign-is _ _ (k .relation)) (reference-inside _ _ _ _ _ k (s .pre .1 .1) (sym (refers-is _ _ (k .relation)) ∙ a .before .if1 .left) (c .before .loop .row) (omega (arith, a .lay .ensures .rows, c .loop-test .taken))),
     )
 
 names-requires : tie.Need-names-requires Inv-loop μ-loop
@@ -66,7 +66,7 @@ returns-2 c =
     let s = a .before .before .before .before in
     let k = s .pre .1 .0 in
     refers-here _ _ _ _ _ _ (l .row)
-    (row-refers _ _ _ _ _ _ (l .row) (sym (refers-is _ _ (k .sound-is) (k .relation)) ∙ a .before .if1 .left) (foreign-is _ _ (k .sound-is) (k .relation)) (c .before .before .value-at .ensures) (c .before .names .ensures))
+    (row-refers _ _ _ _ _ _ (l .row) (sym (refers-is _ _ (k .relation)) ∙ a .before .if1 .left) (foreign-is _ _ (k .relation)) (c .before .before .value-at .ensures) (c .before .names .ensures))
     (c .if2 .taken)
     (omega (arith, a .lay .ensures .rows, c .before .before .before .loop-test .taken))
 
@@ -84,7 +84,7 @@ loop-again c =
     let k = s .pre .1 .0 in (
       omega (arith, c .before .before .before .loop-test .taken),
       any-more (l .row) _ (l .inv .1)
-          (row-refers _ _ _ _ _ _ (l .row) (sym (refers-is _ _ (k .sound-is) (k .relation)) ∙ a .before .if1 .left) (foreign-is _ _ (k .sound-is) (k .relation)) (c .before .before .value-at .ensures) (c .before .names .ensures))
+          (row-refers _ _ _ _ _ _ (l .row) (sym (refers-is _ _ (k .relation)) ∙ a .before .if1 .left) (foreign-is _ _ (k .relation)) (c .before .before .value-at .ensures) (c .before .names .ensures))
           (c .if2 .left),
     )
 

@@ -8,7 +8,7 @@ use Rattle.model.specs.Tables.{norow}
 use Rattle.model.specs.Buffers.{stateOf}
 use Rattle.cells.specs.Changed.{holding, changeLevel}
 use Rattle.above.specs.Facts.{withRows}
-use Rattle.above.proofs.Rewritten.{rows-start, rows-end}
+use Rattle.above.proofs.Turns.{rows-start, rows-end}
 use Rattle.marks.specs.Marking.{rowMarked}
 use Rattle.marks.proofs.Marking.{marked-more}
 use Rattle.delete.proofs.rows.Statement.{statement}

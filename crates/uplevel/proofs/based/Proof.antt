@@ -1,7 +1,8 @@
 use mathlib.Core.Path.{sym, _∙_}
 use native.Mathlib.Omega.{arith}
 use borrow.Author.Tests.{not-true, not-false}
-use Rattle.change.proofs.Known.{ordered, lent, in-level}
+use Rattle.cells.proofs.Counts.{in-level}
+use Rattle.change.proofs.Known.{ordered, lent}
 use Rattle.uplevel.proofs.Entities.{level-few, based-unseen, based-seen}
 use Rattle.uplevel.proofs.based.Statement.{statement}
 use Rattle.uplevel.proofs.based.Tie as tie
@@ -20,7 +21,7 @@ cast-own c =
 entity-requires : tie.Need-entity-requires
 entity-requires c κs =
     let s = c .before .before .before .before in
-    (lent (s .pre .0), in-level _ _ (s .pre .0 .sound-is) (s .pre .0 .relation) _ (level-few _ (s .pre .0 .sound-is) _ _ (sym (c .before .over .ensures) ∙ not-false _ (c .if1 .left)) .0))
+    (lent (s .pre .0), in-level _ (s .pre .0 .sound-is) _ (s .pre .0 .relation) _ (level-few _ (s .pre .0 .sound-is) _ _ (sym (c .before .over .ensures) ∙ not-false _ (c .if1 .left)) .0))
 
 returns-2 : tie.Need-returns-2
 returns-2 c =

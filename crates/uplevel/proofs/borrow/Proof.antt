@@ -1,6 +1,7 @@
 use Prim.Native.Nat.{_+_, _*_}
 use native.Mathlib.Omega.{arith}
-use Rattle.change.proofs.Known.{ordered, related, sounds}
+use Rattle.cells.proofs.Counts.{sound-says}
+use Rattle.change.proofs.Known.{ordered, related}
 use Rattle.change.proofs.Pairs.{listed-none, listed-some}
 use Rattle.uplevel.proofs.Borrowing.{from-seen, raised-key, raised-unlisted, raised-listed}
 use borrow.Author.Needs.{needs}
@@ -14,7 +15,7 @@ find-requires : tie.Need-find-requires
 find-requires c κs = search needs
 
 cast-null : tie.Need-cast-null
-cast-null c = let s = c .before .before .before .before .before .before in omega (arith, s .pre .0 .0 .level, sounds _ _ (s .pre .0 .0 .sound-is) (s .pre .0 .0 .relation) .few-levels)
+cast-null c = let s = c .before .before .before .before .before .before in omega (arith, s .pre .0 .0 .level, sound-says _ (s .pre .0 .0 .sound-is) .few-levels)
 
 null-requires : tie.Need-null-requires
 null-requires c κs = let s = c .before .before .before .before .before .before in (ordered (s .pre .0 .0), related (s .pre .0 .0))

@@ -3,7 +3,8 @@ use Rattle.model.proofs.Sound.{column-r}
 use Prim.Native.Nat.{_+_, _*_}
 use mathlib.Core.Path.{_∙_}
 use native.Mathlib.Omega.{arith}
-use Rattle.change.proofs.Known.{relation-few, relation-is, foreign-is, in-level, over-self}
+use Rattle.cells.proofs.Counts.{relation-few, relation-is, foreign-is, in-level}
+use Rattle.change.proofs.Known.{over-self}
 use Rattle.uplevel.proofs.Entities.{level-few}
 use Rattle.uplevel.proofs.Borrowing.{from-seen, borrows-unreferring, borrows-unlisted, borrows-listed}
 use borrow.Author.Needs.{needs}
@@ -11,10 +12,10 @@ use Rattle.uplevel.proofs.borrowed.Statement.{statement}
 use Rattle.uplevel.proofs.borrowed.Tie as tie
 
 mul-column : tie.Need-mul-column
-mul-column c = let s = c .before .before .before in omega (arith, relation-few _ _ (s .pre .sound-is) (s .pre .relation))
+mul-column c = let s = c .before .before .before in omega (arith, relation-few _ (s .pre .sound-is) _ (s .pre .relation))
 
 element-copy-out-column : tie.Need-element-copy-out-column
-element-copy-out-column c = let s = c .before .before .before in omega (arith, relation-few _ _ (s .pre .sound-is) (s .pre .relation))
+element-copy-out-column c = let s = c .before .before .before in omega (arith, relation-few _ (s .pre .sound-is) _ (s .pre .relation))
 
 cast-column : tie.Need-cast-column
 cast-column c = search needs
@@ -22,7 +23,7 @@ cast-column c = search needs
 returns : tie.Need-returns
 returns c =
     let s = c .before .before .before .before .before in
-    borrows-unreferring _ _ _ _ _ _ (s .pre .lists .columns) (foreign-is _ _ (s .pre .sound-is) (s .pre .relation)) (c .if1 .taken)
+    borrows-unreferring _ _ _ _ _ _ (s .pre .lists .columns) (foreign-is _ _ (s .pre .relation)) (c .if1 .taken)
 
 find-requires : tie.Need-find-requires
 find-requires c κs = search needs
@@ -30,7 +31,7 @@ find-requires c κs = search needs
 returns-2 : tie.Need-returns-2
 returns-2 c =
     let s = c .before .before .before .before .before .before .before in
-    borrows-unlisted _ _ _ _ _ _ (foreign-is _ _ (s .pre .sound-is) (s .pre .relation)) (c .before .find .ensures) (c .if2 .taken)
+    borrows-unlisted _ _ _ _ _ _ (foreign-is _ _ (s .pre .relation)) (c .before .find .ensures) (c .if2 .taken)
 
 mul-from : tie.Need-mul-from
 mul-from c = search needs
@@ -51,11 +52,11 @@ lent-requires : tie.Need-lent-requires
 lent-requires c κs =
     let s = c .before .before .before .before .before .before .before .before in
     let q = s .pre in
-    let F = foreign-is _ _ (q .sound-is) (q .relation) in
-    let f = relation-is _ _ (q .sound-is) (q .relation) .referring (λ z. c .before .before .before .if1 .left (F ∙ z)) in
+    let F = foreign-is _ _ (q .relation) in
+    let f = relation-is _ (q .sound-is) _ (q .relation) .referring (λ z. c .before .before .before .if1 .left (F ∙ z)) in
     let g = level-few _ (q .sound-is) _ _ (from-seen _ _ _ _ (q .lists .seen) (c .before .before .find .ensures) (c .before .if2 .left)) in (
       (record { laid = q .laid; values = q .long; classes = q .wide }, q .lists .some-key),
-      (in-level _ _ (q .sound-is) (q .relation) _ (g .0), is-true (column-r _ _ _) (omega (arith, F, f .after-key), omega (arith, F, f .column))),
+      (in-level _ (q .sound-is) _ (q .relation) _ (g .0), is-true (column-r _ _ _) (omega (arith, F, f .after-key), omega (arith, F, f .column))),
     )
 
 names-requires : tie.Need-names-requires
@@ -63,14 +64,14 @@ names-requires c κs =
     let s = c .before .before .before .before .before .before .before .before .before in
     let q = s .pre in (
       record { sound-is = q .sound-is; relation = q .relation; level = q .level; long = q .long },
-      λ z. c .before .before .before .before .if1 .left (foreign-is _ _ (q .sound-is) (q .relation) ∙ z),
+      λ z. c .before .before .before .before .if1 .left (foreign-is _ _ (q .relation) ∙ z),
     )
 
 returns-3 : tie.Need-returns-3
 returns-3 c =
     let s = c .before .before .before .before .before .before .before .before .before .before in
     let q = s .pre in
-    borrows-listed _ _ _ _ _ _ (foreign-is _ _ (q .sound-is) (q .relation)) (c .before .before .before .before .find .ensures) (c .before .before .before .if2 .left)
+    borrows-listed _ _ _ _ _ _ (foreign-is _ _ (q .relation)) (c .before .before .before .before .find .ensures) (c .before .before .before .if2 .left)
     (over-self _ (q .sound-is) _ (q .level)) (from-seen _ _ _ _ (q .lists .seen) (c .before .before .before .before .find .ensures) (c .before .before .before .if2 .left)) (c .before .lent .ensures) (c .names .ensures _)
 
 pub borrowed-spec : {M : Type 1} → statement M

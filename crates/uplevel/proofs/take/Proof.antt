@@ -1,7 +1,8 @@
 use native.Mathlib.Omega.{arith}
 use Rattle.bounded.proofs.Reflection.{of-true}
 use Rattle.model.proofs.Sound.{column-r}
-use Rattle.change.proofs.Known.{ordered, related, own-over, lent, in-level, sounds}
+use Rattle.cells.proofs.Counts.{in-level, sound-says}
+use Rattle.change.proofs.Known.{ordered, related, own-over, lent}
 use Rattle.uplevel.proofs.Entities.{level-few}
 use Rattle.uplevel.proofs.Borrowing.{taken-strayed, taken-lent}
 use Rattle.uplevel.proofs.take.Statement.{statement}
@@ -11,7 +12,7 @@ lent-requires : tie.Need-lent-requires
 lent-requires c κs =
     let s = c .before .before in
     let q = s .pre .0 .0 in
-    ((lent q, s .pre .1 .0), (in-level _ _ (q .sound-is) (q .relation) _ (level-few _ (q .sound-is) _ _ (s .pre .1 .1) .0), s .pre .0 .1))
+    ((lent q, s .pre .1 .0), (in-level _ (q .sound-is) _ (q .relation) _ (level-few _ (q .sound-is) _ _ (s .pre .1 .1) .0), s .pre .0 .1))
 
 strays-requires : tie.Need-strays-requires
 strays-requires c κs =
@@ -22,7 +23,7 @@ strays-requires c κs =
     )
 
 cast-null : tie.Need-cast-null
-cast-null c = let s = c .before .before .before .before .before in omega (arith, s .pre .0 .0 .level, sounds _ _ (s .pre .0 .0 .sound-is) (s .pre .0 .0 .relation) .few-levels)
+cast-null c = let s = c .before .before .before .before .before in omega (arith, s .pre .0 .0 .level, sound-says _ (s .pre .0 .0 .sound-is) .few-levels)
 
 null-requires : tie.Need-null-requires
 null-requires c κs = let s = c .before .before .before .before .before in (ordered (s .pre .0 .0), related (s .pre .0 .0))

@@ -3,7 +3,8 @@ use mathlib.Core.Path.{ap, ap₂, _∙_}
 use native.Mathlib.Omega.{arith}
 use lib.Dec.{eqb, leb}
 use borrow.Author.Needs.{needs}
-use Rattle.above.proofs.Sought.{key-inside, agree-none, agree-one, agree-both}
+use Rattle.cells.proofs.Sought.{key-inside}
+use Rattle.above.proofs.Sought.{agree-none, agree-one, agree-both}
 use Rattle.above.proofs.find.agree.Statement.{statement}
 use Rattle.above.proofs.find.agree.Tie as tie
 

@@ -4,7 +4,8 @@ use native.Mathlib.Omega.{arith}
 use lib.Dec.{eqb}
 use borrow.Author.Needs.{needs}
 use borrow.Author.Tests.{not-true, not-false}
-use Rattle.above.proofs.Sought.{key-inside, gone-off, gone-none, gone-unmarked, gone-other, gone-missing, gone-there}
+use Rattle.cells.proofs.Sought.{key-inside}
+use Rattle.above.proofs.Sought.{gone-off, gone-none, gone-unmarked, gone-other, gone-missing, gone-there}
 use Rattle.above.proofs.find.gone.Statement.{statement}
 use Rattle.above.proofs.find.gone.Tie as tie
 

@@ -1,7 +1,8 @@
 use mathlib.Core.Path.{sym, _∙_}
 use native.Mathlib.Nat.{le-of-lt}
 use borrow.Author.Needs.{needs}
-use Rattle.above.proofs.Sought.{key-inside, key-here}
+use Rattle.cells.proofs.Sought.{key-inside}
+use Rattle.above.proofs.Sought.{key-here}
 use Rattle.above.proofs.find.near.Statement.{statement}
 use Rattle.above.proofs.find.near.Tie as tie
 

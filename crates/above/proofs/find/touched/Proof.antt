@@ -3,7 +3,8 @@ use native.Mathlib.Omega.{arith}
 use lib.Dec.{eqb}
 use borrow.Author.Needs.{needs}
 use borrow.Author.Tests.{not-true, not-false}
-use Rattle.above.proofs.Sought.{key-inside, touched-unused, touched-none, touched-unmarked, touched-marked}
+use Rattle.cells.proofs.Sought.{key-inside}
+use Rattle.above.proofs.Sought.{touched-unused, touched-none, touched-unmarked, touched-marked}
 use Rattle.above.proofs.find.touched.Statement.{statement}
 use Rattle.above.proofs.find.touched.Tie as tie
 

@@ -1,6 +1,7 @@
 use borrow.Author.Needs.{needs}
 use borrow.Author.Tests.{not-true, not-false}
-use Rattle.above.proofs.Taken.{foreign-is, foreign-few, given-whole, given-handed}
+use Rattle.cells.proofs.Counts.{foreign-is}
+use Rattle.above.proofs.Taken.{foreign-few, given-whole, given-handed}
 use Rattle.above.proofs.reach.given.Statement.{statement}
 use Rattle.above.proofs.reach.given.Tie as tie
 

@@ -1,8 +1,7 @@
 use native.Mathlib.Omega.{arith}
 use borrow.Author.Needs.{needs}
-use Rattle.cells.proofs.Counts.{relation-few}
-use Rattle.above.proofs.Referred.{refers-is}
-use Rattle.above.proofs.Taken.{foreign-is, foreign-few, in-level, referred, lost-unreferring, lost-untaken, lost-null, lost-named}
+use Rattle.cells.proofs.Counts.{relation-few, in-level, foreign-is, refers-is}
+use Rattle.above.proofs.Taken.{foreign-few, referred, lost-unreferring, lost-untaken, lost-null, lost-named}
 use Rattle.above.proofs.reach.lost.Statement.{statement}
 use Rattle.above.proofs.reach.lost.Tie as tie
 

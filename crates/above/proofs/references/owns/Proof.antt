@@ -1,18 +1,19 @@
 use native.Mathlib.Omega.{arith}
 use borrow.Author.Needs.{needs}
-use Rattle.above.proofs.Unnamed.{inside-key, owns-null, owns-not, owns-some}
+use Rattle.cells.proofs.Sought.{key-inside}
+use Rattle.above.proofs.Unnamed.{owns-null, owns-not, owns-some}
 use Rattle.above.proofs.references.owns.Statement.{statement}
 use Rattle.above.proofs.references.owns.Tie as tie
 
 value-at-requires : tie.Need-value-at-requires
 value-at-requires c κs =
     let s = c .before .before in
-    (record { laid = s .pre .0 .0 .laid; size = s .pre .0 .0 .values }, inside-key _ _ _ _ (s .pre .0 .1 .level) (s .pre .0 .1 .row))
+    (record { laid = s .pre .0 .0 .laid; size = s .pre .0 .0 .values }, key-inside _ _ _ _ (s .pre .0 .1 .level) (s .pre .0 .1 .row))
 
 class-at-requires : tie.Need-class-at-requires
 class-at-requires c κs =
     let s = c .before .before .before in
-    (record { laid = s .pre .0 .0 .laid; size = s .pre .0 .0 .classes }, inside-key _ _ _ _ (s .pre .0 .1 .level) (s .pre .0 .1 .row))
+    (record { laid = s .pre .0 .0 .laid; size = s .pre .0 .0 .classes }, key-inside _ _ _ _ (s .pre .0 .1 .level) (s .pre .0 .1 .row))
 
 find-requires : tie.Need-find-requires
 find-requires c κs = search needs
@@ -30,7 +31,7 @@ returns-2 c =
 class-at-requires-2 : tie.Need-class-at-requires-2
 class-at-requires-2 c κs =
     let s = c .before .before .before .before .before .before in
-    (record { laid = s .pre .0 .0 .laid; size = s .pre .0 .0 .classes }, inside-key _ _ _ _ (s .pre .1) (omega (arith, s .pre .0 .0 .laid .rows, c .if1 .left)))
+    (record { laid = s .pre .0 .0 .laid; size = s .pre .0 .0 .classes }, key-inside _ _ _ _ (s .pre .1) (omega (arith, s .pre .0 .0 .laid .rows, c .if1 .left)))
 
 returns-3 : tie.Need-returns-3
 returns-3 c =

@@ -2,7 +2,8 @@ use mathlib.Core.Path.{_∙_}
 use native.Mathlib.Omega.{arith}
 use borrow.Author.Needs.{needs}
 use borrow.Author.Tests.{not-true, not-false}
-use Rattle.above.proofs.Unnamed.{inside-foreign, value-cell, foreign-is, reference-stays, reference-kept, reference-falls}
+use Rattle.cells.proofs.Counts.{foreign-is}
+use Rattle.above.proofs.Unnamed.{inside-foreign, value-cell, reference-stays, reference-kept, reference-falls}
 use Rattle.above.proofs.references.reference.Statement.{statement}
 use Rattle.above.proofs.references.reference.Tie as tie
 

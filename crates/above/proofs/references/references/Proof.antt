@@ -7,7 +7,7 @@ use Rattle.model.specs.Description.{columnCount}
 use Rattle.model.specs.Buffers.{stateOf}
 use Rattle.cells.specs.Changed.{holding, changeLevel}
 use Rattle.above.specs.Facts.{rowUnnamed, withRows}
-use Rattle.above.proofs.Changes.{rows-start, rows-end}
+use Rattle.above.proofs.Turns.{rows-start, rows-end}
 use Rattle.above.proofs.Unnamed.{references-more}
 use Rattle.above.proofs.references.references.Statement.{statement}
 use Rattle.above.proofs.references.references.Tie as tie

@@ -1,8 +1,8 @@
 use mathlib.Core.Path.{sym, _∙_}
 use native.Mathlib.Omega.{arith}
 use borrow.Author.Needs.{needs}
-use Rattle.cells.proofs.Counts.{relation-few}
-use Rattle.above.proofs.Referred.{refers-is, referring, referrer-none, referrer-done}
+use Rattle.cells.proofs.Counts.{relation-few, refers-is}
+use Rattle.above.proofs.Referred.{referring, referrer-none, referrer-done}
 use Rattle.above.proofs.references.referrer.Statement.{statement}
 use Rattle.above.proofs.references.referrer.Tie as tie
 

@@ -5,7 +5,7 @@ use lib.Dec.{eqb}
 use borrow.Author.Needs.{needs}
 use borrow.Author.Tests.{not-true, not-false}
 use Rattle.bounded.proofs.Cases.{and-false-right}
-use Rattle.above.proofs.Sought.{key-inside}
+use Rattle.cells.proofs.Sought.{key-inside}
 use Rattle.above.proofs.Rewritten.{row-kept, row-emptied, row-turned}
 use Rattle.above.proofs.rows.row.Statement.{statement}
 use Rattle.above.proofs.rows.row.Tie as tie

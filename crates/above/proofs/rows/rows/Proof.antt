@@ -9,7 +9,8 @@ use Rattle.model.specs.Description.{rowCount, columnCount}
 use Rattle.model.specs.Buffers.{stateOf}
 use Rattle.cells.specs.Changed.{holding, changeLevel}
 use Rattle.above.specs.Facts.{Lists, rowAfter, withRows}
-use Rattle.above.proofs.Rewritten.{rows-start, rows-after, rows-end, rows-one}
+use Rattle.above.proofs.Turns.{rows-start, rows-end}
+use Rattle.above.proofs.Rewritten.{rows-after, rows-one}
 use Rattle.above.proofs.rows.rows.Statement.{statement}
 use Rattle.above.proofs.rows.rows.Tie as tie
 

@@ -18,7 +18,7 @@ same-length-2 c = search needs
 returns : tie.Need-returns
 returns c =
     let s = c .before .before .before .before .before .before .before .before .before in
-    c .before .before .before .before .store .ensures ∙ row-as _ _ _ _ _ norow _ (λ k h. nulls-empty k (omega (arith, s .pre .0 .laid .narrow, s .pre .0 .laid .columns)))
+    c .before .before .before .before .store .ensures ∙ row-as _ _ _ _ _ norow _ (λ k z h. nulls-empty k (omega (arith, s .pre .0 .laid .narrow, s .pre .0 .laid .columns)))
 
 pub clear-spec : {M : Type 1} → statement M
 clear-spec = tie.close (tie.spec store-requires same-length same-length-2 returns)
