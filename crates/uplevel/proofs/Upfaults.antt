@@ -27,8 +27,8 @@ use Rattle.cells.specs.Changed.{holding, keyPlace, entityPlace}
 use Rattle.asked.specs.declared.pairs.Rule.the-variants as Rules
 use Rattle.asked.specs.Facts.{ruleOf}
 use Rattle.theory.proofs.Seen.{seen-at, seen-own}
-use Rattle.uplevel.specs.declared.Test.{Test}
-use Rattle.uplevel.specs.declared.Test.the-variants as Tests
+use Rattle.uplevel.specs.declared.tests.Test.{Test}
+use Rattle.uplevel.specs.declared.tests.Test.the-variants as Tests
 use Rattle.change.specs.Facts.{Answered, refuses, does, sight, Uplevels}
 use Rattle.uplevel.specs.Raising.{classSeen, levelsSeen, laterTests, severalBased, entityTests, testOf, spotOf}
 use Rattle.change.proofs.Sought.{used-is}

@@ -37,7 +37,7 @@ use Rattle.cells.proofs.Cells.{state-path}
 use Rattle.cells.proofs.Changes.{change-here, change-other}
 use Rattle.above.specs.Facts.{Working, Planned, markedAt, changeOf, aboveOf, carried}
 use Rattle.above.proofs.Carried.{carried-own, carried-aside, carried-cell}
-use Rattle.uplevel.specs.declared.News.{News}
+use Rattle.uplevel.specs.declared.made.News.{News}
 use Rattle.change.specs.Facts.{Standing}
 use Rattle.uplevel.specs.Raising.{planOf, spotOf, Listing, Composed}
 use Rattle.change.proofs.Answers.{left-own, left-over, left-other}

@@ -21,9 +21,9 @@ use Rattle.model.specs.Uplevel.{based, borrowedNames, raised}
 use Rattle.cells.specs.declared.layout.Part.{Part}
 use Rattle.cells.specs.Layout.{Laid}
 use Rattle.above.specs.declared.Plan.{Plan}
-use Rattle.uplevel.specs.declared.News.{News}
-use Rattle.uplevel.specs.declared.Test.{Test}
-use Rattle.uplevel.specs.declared.Test.the-variants as Tests
+use Rattle.uplevel.specs.declared.made.News.{News}
+use Rattle.uplevel.specs.declared.tests.Test.{Test}
+use Rattle.uplevel.specs.declared.tests.Test.the-variants as Tests
 use Rattle.change.specs.Facts.{Filled}
 
 -- ---- what is known

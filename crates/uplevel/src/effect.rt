@@ -1,0 +1,154 @@
+// The effect: where the new row goes, and what becomes of the rows above.
+use crate::made::News;
+use crate::made::compose;
+use above::Plan;
+use above::above;
+use cells::layout::Part;
+use cells::search::lowest;
+use cells::write::store;
+use model::Answer;
+use model::Description;
+ghost use mathlib.Core.Path.{_≡_};
+ghost use mathlib.Core.Bool.{true, false};
+ghost use mathlib.Core.Logic.{_≢_};
+ghost use mathlib.Core.Option.{some};
+ghost use lib.ListN.{length, set, replicate};
+ghost use Prim.Native.Nat.{_<_};
+ghost use Rattle.model.specs.Description.{rowCount, columnCount};
+ghost use Rattle.model.specs.Tables.{cell, rowsOf};
+ghost use Rattle.model.specs.Buffers.{stateOf};
+ghost use Rattle.model.specs.declared.Answer.the-variants.{Done};
+ghost use Rattle.model.specs.Uplevel.{uplevelled};
+ghost use Rattle.model.specs.Run.{left};
+ghost use Rattle.cells.specs.Layout.{Lent, InLevel, Row};
+ghost use Rattle.cells.specs.Changed.{holding, entityPlace, listedRow, withRow, changeLevel};
+ghost use Rattle.above.specs.Facts.{carried};
+ghost use Rattle.change.specs.Facts.{Standing, sight};
+ghost use Rattle.uplevel.specs.Raising.{Listing, spotOf, planOf};
+
+// The entity's row, which is row `here`, or the lowest empty one.
+pub fn spot(
+    values: &[u32],
+    classes: &[u8],
+    description: Description,
+    relation: usize,
+    part: Part,
+    subject: usize,
+    here: usize,
+) -> usize
+    requires { ⌜ Lent description relation part (length (now values)) (length (now classes)) ⌝ }
+    requires { ⌜ InLevel description relation subject ⌝ }
+    ensures { λ r. ⌜ Row description relation (spotOf description relation here (stateOf description (holding (now (values .entry)) (now (classes .entry))) subject .rows)) r ⌝ }
+{
+    if here < part.rows {
+        return here;
+    }
+    lowest(values, classes, description, relation, part, subject)
+}
+
+// Only one row is marked, or none.
+fn mark(row: usize, on: bool) -> [bool; 64]
+    requires { ⌜ row < 64 ⌝ }
+    ensures { λ r. ⌜ r ≡ set (replicate 64 false) row on ⌝ }
+{
+    let mut marks = [false; 64];
+    marks[row] = on;
+    marks
+}
+
+// A row becomes the new row; above, where the entity was there, what differs from it becomes null.
+fn write(
+    values: &mut [u32],
+    classes: &mut [u8],
+    description: Description,
+    order: [[bool; 16]; 16],
+    relation: usize,
+    part: Part,
+    subject: usize,
+    row: usize,
+    there: bool,
+    news: News,
+)
+    requires { ⌜ Standing description order relation subject part (now values) (now classes) × (row < rowCount description relation) ⌝ }
+    requires { ⌜ (length (news .values) ≡ 9) × (length (news .classes) ≡ 9) × (there ≡ true → stateOf description (holding (now values) (now classes)) subject .rows relation row 1 .value ≢ 0) ⌝ }
+    ensures { λ _. ⌜ stateOf description (holding (now (values .exit)) (now (classes .exit))) ≡ changeLevel subject (withRow (columnCount description relation) relation row (listedRow (news .values) (news .classes))) (carried description subject relation (planOf row there news) (stateOf description (holding (now (values .entry)) (now (classes .entry))))) ⌝ }
+{
+    let marks = mark(row, there);
+    let new = news.values;
+    let owners = news.classes;
+    let plan = Plan {
+        marks: marks,
+        gone: false,
+        kinds: [2; 9],
+        values: new,
+        classes: owners,
+    };
+    above(
+        values,
+        classes,
+        description,
+        order,
+        relation,
+        part,
+        plan,
+        subject,
+    );
+    store(
+        values,
+        classes,
+        description,
+        relation,
+        part,
+        subject,
+        row,
+        new,
+        owners,
+    );
+}
+
+// The new row replaces the entity's row, which is row `here`, or takes the lowest empty one, and is counted.
+pub fn place(
+    values: &mut [u32],
+    classes: &mut [u8],
+    list: &[u32],
+    description: Description,
+    order: [[bool; 16]; 16],
+    relation: usize,
+    part: Part,
+    subject: usize,
+    key: u32,
+    class: u8,
+    here: usize,
+) -> Answer
+    requires { ⌜ Standing description order relation subject part (now values) (now classes) × Listing description relation subject key (now list) ⌝ }
+    requires { ⌜ Row description relation (entityPlace description (now values) (now classes) relation subject key class) here × (spotOf description relation here (stateOf description (holding (now values) (now classes)) subject .rows) < rowCount description relation) ⌝ }
+    ensures { λ r. ⌜ (r ≡ Done 1) × (stateOf description (holding (now (values .exit)) (now (classes .exit))) ≡ left description subject (some (uplevelled description subject relation (cell key class) (now (list .entry)) (rowsOf (sight description subject (now (values .entry)) (now (classes .entry)))))) (stateOf description (holding (now (values .entry)) (now (classes .entry))))) ⌝ }
+{
+    let row = spot(values, classes, description, relation, part, subject, here);
+    let there = here < part.rows;
+    let news = compose(
+        values,
+        classes,
+        list,
+        description,
+        order,
+        relation,
+        part,
+        subject,
+        key,
+        class,
+    );
+    write(
+        values,
+        classes,
+        description,
+        order,
+        relation,
+        part,
+        subject,
+        row,
+        there,
+        news,
+    );
+    Answer::Done { count: 1 }
+}
