@@ -37,6 +37,14 @@ pub fn size(input: &[u8], window: Window) -> usize
     wanted
 }
 
+// The record at the front is there whole, or is known to be refused.
+pub fn ready(input: &[u8], window: Window) -> bool
+    requires { ⌜ window .from ≤ window .to ⌝ }
+{
+    let there = window.to - window.from;
+    wanted(input, window.from, there) <= there
+}
+
 // Moves bytes to the front of the buffer.
 fn shift(input: &mut [u8], from: usize, there: usize)
     requires { ⌜ from + there ≤ length (now input) ⌝ }
@@ -80,11 +88,11 @@ pub fn fill(input: &mut [u8], window: Window) -> Window
     requires { ⌜ (window .from ≤ window .to) × (window .to ≤ length (now input)) × (1028 ≤ length (now input)) ⌝ }
     ensures { λ r. ⌜ (r .from ≤ r .to) × (r .to ≤ length (now (input .entry))) ⌝ }
 {
-    let from = window.from;
-    let there = window.to - from;
-    if wanted(input, from, there) <= there {
+    if ready(input, window) {
         return window;
     }
+    let from = window.from;
+    let there = window.to - from;
     shift(input, from, there);
     let to = load(input, there);
     Window { from: 0, to }

@@ -24,20 +24,24 @@ struct State {
     description: Description,
 }
 
-// Writes what is waiting where there might not be room for one more answer; answers whether that could be done.
-fn drain(output: &[u8], waiting: usize) -> bool
+// Writes what is waiting where there might not be room for one more answer, or where the next record must be waited for; answers whether that
+// could be done.
+fn drain(output: &[u8], waiting: usize, ready: bool) -> bool
     requires { ⌜ waiting ≤ length (now output) ⌝ }
 {
-    if waiting <= ROOM {
+    if left(waiting, ready) == waiting {
         return true;
     }
     io::write_all(1, &output[..waiting])
 }
 
 // How much is waiting then.
-fn left(waiting: usize) -> usize
+fn left(waiting: usize, ready: bool) -> usize
     ensures { λ r. ⌜ r ≤ 131072 ⌝ }
 {
+    if !ready {
+        return 0;
+    }
     if waiting <= ROOM {
         return waiting;
     }
@@ -98,20 +102,19 @@ fn next(
     requires { ⌜ Within state (length (now input)) (length (now output)) ⌝ }
     ensures { λ r. ⌜ Within r (length (now (input .entry))) (length (now (output .entry))) ⌝ }
 {
-    let window = input::fill(
-        input,
-        Window {
-            from: state.from,
-            to: state.to,
-        },
-    );
+    let held = Window {
+        from: state.from,
+        to: state.to,
+    };
+    let ready = input::ready(input, held);
+    let drained = drain(output, state.waiting, ready);
+    let waiting = left(state.waiting, ready);
+    let window = input::fill(input, held);
     let size = input::size(input, window);
     let from = window.from;
     let to = window.to;
-    let drained = drain(output, state.waiting);
-    let waiting = left(state.waiting);
     let description = state.description;
-    let ready = State {
+    let after = State {
         from: from + size,
         to,
         waiting,
@@ -120,17 +123,17 @@ fn next(
         description,
     };
     if size == 0 {
-        return ready;
+        return after;
     }
     if !drained {
-        return ready;
+        return after;
     }
     take(
         &input[from..from + size],
         values,
         classes,
         output,
-        ready,
+        after,
         number,
     )
 }
