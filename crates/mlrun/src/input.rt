@@ -1,8 +1,10 @@
 // Standard input, a buffer at a time: the record at the front is there whole, if the input has it.
 use records::bytes::pair;
 ghost use mathlib.Core.Path.{_≡_};
-ghost use Prim.Native.Nat.{_+_, _-_, _≤_};
+ghost use Prim.Native.Nat.{_+_, _-_, _≤_, min};
+ghost use lib.Dec.{leb};
 ghost use lib.ListN.{length};
+ghost use Rattle.mlrun.specs.Front.{wanted as wantedOf};
 
 // Where in the buffer the bytes stand that were read and not used yet.
 pub struct Window {
@@ -12,7 +14,7 @@ pub struct Window {
 
 // How many bytes are needed to judge the record at the front: those that its header says; its header alone where that is cut or says too many.
 fn wanted(input: &[u8], from: usize, there: usize) -> usize
-    ensures { λ r. ⌜ r ≤ 1028 ⌝ }
+    ensures { λ r. ⌜ (r ≡ wantedOf (now (input .entry)) from there) × (r ≤ 1028) ⌝ }
 {
     if there < 4 {
         return 4;
@@ -27,7 +29,7 @@ fn wanted(input: &[u8], from: usize, there: usize) -> usize
 // How many bytes of the record at the front are there.
 pub fn size(input: &[u8], window: Window) -> usize
     requires { ⌜ window .from ≤ window .to ⌝ }
-    ensures { λ r. ⌜ window .from + r ≤ window .to ⌝ }
+    ensures { λ r. ⌜ (r ≡ min (window .to - window .from) (wantedOf (now (input .entry)) (window .from) (window .to - window .from))) × (window .from + r ≤ window .to) ⌝ }
 {
     let there = window.to - window.from;
     let wanted = wanted(input, window.from, there);
@@ -40,6 +42,7 @@ pub fn size(input: &[u8], window: Window) -> usize
 // The record at the front is there whole, or is known to be refused.
 pub fn ready(input: &[u8], window: Window) -> bool
     requires { ⌜ window .from ≤ window .to ⌝ }
+    ensures { λ r. ⌜ r ≡ leb (wantedOf (now (input .entry)) (window .from) (window .to - window .from)) (window .to - window .from) ⌝ }
 {
     let there = window.to - window.from;
     wanted(input, window.from, there) <= there

@@ -103,7 +103,7 @@ returns-3 c =
     let f = c .before .before .before .before .before .before .before .before .before .before .before .before .before .before .before .before .before .before .before .fill .ensures in
     let p = c .before .before .before .before .before .before .before .before .before .before .before .before .before .before .before .before .before .before .before .before .before .before .before .before .before .before .before .before .before .before .pre in
     record {
-      ordered = omega (arith, t .0, t .1, z);
+      ordered = omega (arith, t .0, t .1, z .1);
       read = omega (arith, t .1, f .1);
       waiting-is = t .2;
       record-fits = p .record-fits;
