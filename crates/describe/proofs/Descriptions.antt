@@ -194,11 +194,6 @@ module _ (d : Description) where
 
   -- ---- what is known once they are true
 
-  pub bounded-of : d .levels ≤ 16 → d .relations ≤ 8 → allBelow (d .relations) (λ r. relationSound d (suc r)) ≡ true → Bounded d
-  bounded-of h g t =
-      let all = of-true (all-r (d .relations) (λ r. relation-r (suc r))) t in
-      record { levels = h; relations = g; rows = rows-few all; cols = columns-few all }
-
   All : Type 0
   All =
       ((1 ≤ d .levels) × (d .levels ≤ 16))

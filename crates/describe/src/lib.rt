@@ -2,14 +2,14 @@
 use model::Description;
 ghost use mathlib.Core.Path.{_≡_};
 ghost use mathlib.Core.Bool.{not};
-ghost use Prim.Native.Nat.{suc, _<_, _≤_};
+ghost use Prim.Native.Nat.{suc, _*_, _<_, _≤_};
 ghost use lib.Dec.{eqb, leb};
 ghost use lib.ListN.{getD};
 ghost use Rattle.bounded.specs.Bounded.{allBelow};
 ghost use Rattle.level.specs.Order.{orderOf};
 ghost use Rattle.model.specs.Description as descriptions;
 ghost use Rattle.model.specs.Description.{over, columnCount, lowOf, highOf, sizeOf, totalOf, labelsSound, foreignSound, relationSound, between as betweenOf, distinctBelow};
-ghost use Rattle.describe.specs.Facts.{Bounded, Described};
+ghost use Rattle.describe.specs.Facts.{Described};
 
 // A number of a description as an index.
 pub fn wide(x: u16) -> usize
@@ -164,12 +164,15 @@ fn relations(d: Description, order: [[bool; 16]; 16]) -> bool
     true
 }
 
-// How many cells a relation has; none has number 0.
+// How many cells a relation has; one that doesn't exist has none.
 pub fn size(d: Description, relation: usize) -> usize
-    requires { ⌜ Bounded d × (relation ≤ d .relations) ⌝ }
-    ensures { λ r. ⌜ (r ≡ sizeOf d relation) × (r ≤ 8192) ⌝ }
+    requires { ⌜ relation ≤ 8 ⌝ }
+    ensures { λ r. ⌜ (r ≡ sizeOf d relation) × (r ≤ 65535 * 65535 * 65535) ⌝ }
 {
     if relation == 0 {
+        return 0;
+    }
+    if wide(d.relations) < relation {
         return 0;
     }
     let levels = wide(d.levels);
@@ -178,15 +181,13 @@ pub fn size(d: Description, relation: usize) -> usize
     levels * rows * cols
 }
 
-// How many cells there are.
+// How many cells there are. A description has numbers of eight relations, so none behind them has cells.
 pub fn total(d: Description) -> usize
-    requires { ⌜ Bounded d ⌝ }
     ensures { λ r. ⌜ r ≡ totalOf d ⌝ }
 {
-    let n = wide(d.relations);
     let mut sum = 0;
     let mut r = 0;
-    while r <= n {
+    while r <= 8 {
         sum += size(d, r);
         r += 1;
     }

@@ -1,20 +1,21 @@
 -- What a record leaves, case by case, from the facts that the functions have.
 -- Assumes nothing.
 use Prim.Native.Nat.{ℕ, _<_, _≤_, min}
-use mathlib.Core.Path.{_≡_, refl, sym, ap, _∙_}
+use mathlib.Core.Path.{_≡_, refl, sym, ap, subst, _∙_}
 use mathlib.Core.Bool.{Bool, true, false}
 use mathlib.Core.List.{List, _++_}
 use native.Mathlib.Omega.{arith}
 use lib.Dec.{eqb}
 use lib.ListN.{length, take, drop, replicate, length-take, take-append-drop}
 use borrow.Author.Tests.{ne-eqb}
-use Rattle.bounded.proofs.Cases.{cases, and-false-right}
+use Rattle.bounded.proofs.Cases.{cases, clash, and-left, and-false-right}
 use Rattle.model.specs.declared.Description.{Description}
 use Rattle.model.specs.declared.Statement.{Statement}
 use Rattle.model.specs.declared.Answer.{Answer}
 use Rattle.model.specs.Description.{columnCount, totalOf, sound}
 use Rattle.model.specs.Buffers.{Buffers, fitting}
 use Rattle.model.specs.Run.{Request, Outcome, run}
+use Rattle.theory.proofs.Calls.{run-refused}
 use Rattle.cells.specs.Changed.{holding}
 use Rattle.records.specs.declared.Read.{Read}
 use Rattle.records.specs.declared.Read.the-variants as Reads
@@ -26,6 +27,7 @@ use Rattle.placing.specs.Placing.{placeable, placed, Places}
 use Rattle.lines.specs.Lines.{answerText}
 use Rattle.lines.specs.Written.{Wrote, written}
 use Rattle.register.specs.Calls.{request, outcome}
+use Rattle.register.proofs.Outcomes.{unsound-refused}
 use Rattle.stream.specs.declared.Stepped.{Stepped}
 use Rattle.stream.specs.Step.{Turn, cellsOf, tables, keeping, describing, refuses, silent, labelsTurn, relationTurn, rowTurn, call, answered, statementTurn, turnOf, step}
 use Rattle.stream.specs.Facts.{holds, Took}
@@ -45,11 +47,7 @@ quiet last d values classes text p =
 
 -- ---- how many cells there are
 
-pub no-cells : (d : Description) → sound d ≡ false → cellsOf d ≡ 0
-unfolding cellsOf
-no-cells d s = rw s
-
-pub all-cells : (d : Description) → sound d ≡ true → cellsOf d ≡ totalOf d
+all-cells : (d : Description) → sound d ≡ true → cellsOf d ≡ totalOf d
 unfolding cellsOf
 all-cells d s = rw s
 
@@ -86,27 +84,37 @@ fit-classes : (d : Description) (b : Buffers) → length (b .classes) < totalOf 
 unfolding fitting
 fit-classes d b h = and-false-right (eqb (length (b .values)) (totalOf d)) _ (ne-eqb (length (b .classes)) (totalOf d) (λ e. omega arith))
 
+placed-sound : (d : Description) (b : Buffers) (bytes : List ℕ) → placeable d b bytes ≡ true → sound d ≡ true
+unfolding placeable
+placed-sound d b bytes t = and-left (sound d) _ t
+
 module _ (last : ℕ) (d : Description) (values classes : List ℕ) (number : ℕ) (bytes : List ℕ) where
   row-unplaced : placeable d (tables (holds last d values classes)) bytes ≡ false → rowTurn (holds last d values classes) number bytes ≡ refuses (holds last d values classes) number
   unfolding rowTurn
   row-unplaced p = rw p
 
-  pub row-values : {extent : ℕ} → extent ≡ cellsOf d → length values < extent → rowTurn (holds last d values classes) number bytes ≡ refuses (holds last d values classes) number
+  pub row-values : {extent : ℕ} → extent ≡ totalOf d → length values < extent → rowTurn (holds last d values classes) number bytes ≡ refuses (holds last d values classes) number
   unfolding tables
   row-values {extent} e h =
       row-unplaced
       (unfit d _ bytes (λ s. fit-values d _ (omega (arith, e, all-cells d s, length-take (cellsOf d) values))))
 
-  pub row-classes : {extent : ℕ} → extent ≡ cellsOf d → length classes < extent → rowTurn (holds last d values classes) number bytes ≡ refuses (holds last d values classes) number
+  pub row-classes : {extent : ℕ} → extent ≡ totalOf d → length classes < extent → rowTurn (holds last d values classes) number bytes ≡ refuses (holds last d values classes) number
   unfolding tables
   row-classes {extent} e h =
       row-unplaced
       (unfit d _ bytes (λ s. fit-classes d _ (omega (arith, e, all-cells d s, length-take (cellsOf d) classes))))
 
-  module _ {extent : ℕ} {values′ classes′ : List ℕ} {done : Bool} (e : extent ≡ cellsOf d) (k : Places d bytes (holding (take extent values) (take extent classes)) (holding values′ classes′) done) where
-    places : Places d bytes (tables (holds last d values classes)) (holding values′ classes′) done
+  module _ {extent : ℕ} {values′ classes′ : List ℕ} {done : Bool} (e : extent ≡ totalOf d) (k : Places d bytes (holding (take extent values) (take extent classes)) (holding values′ classes′) done) where
+    all-is : sound d ≡ true → extent ≡ cellsOf d
+    all-is s = e ∙ sym (all-cells d s)
+
+    places : sound d ≡ true → Places d bytes (tables (holds last d values classes)) (holding values′ classes′) done
     unfolding tables
-    places = rw e at k
+    places s = rw (all-is s) at k
+
+    unplaced : done ≡ false → placeable d (tables (holds last d values classes)) bytes ≡ false
+    unplaced f = cases (sound d) (λ s. sym (places s .done-is) ∙ f) (λ s. unfit d _ bytes (λ t. clash t s))
 
     unchanged : done ≡ false → holding values′ classes′ ≡ holding (take extent values) (take extent classes)
     unfolding placed
@@ -117,11 +125,13 @@ module _ (last : ℕ) (d : Description) (values classes : List ℕ) (number : �
         let u = unchanged f in
         let v : values′ ++ drop extent values ≡ values = ap (λ b. b .values ++ drop extent values) u ∙ take-append-drop extent values in
         let w : classes′ ++ drop extent classes ≡ classes = ap (λ b. b .classes ++ drop extent classes) u ∙ take-append-drop extent classes in
-        row-unplaced (sym (places .done-is) ∙ f) ∙ sym (ap (λ x. refuses (holds last d x (classes′ ++ drop extent classes)) number) v ∙ ap (λ y. refuses (holds last d values y) number) w)
+        row-unplaced (unplaced f) ∙ sym (ap (λ x. refuses (holds last d x (classes′ ++ drop extent classes)) number) v ∙ ap (λ y. refuses (holds last d values y) number) w)
 
     pub row-taken : done ≡ true → rowTurn (holds last d values classes) number bytes ≡ silent (holds 3 d (values′ ++ drop extent values) (classes′ ++ drop extent classes))
     unfolding rowTurn keeping
-    row-taken t = rw (sym (places .done-is) ∙ t, ← (places .left-is), e)
+    row-taken t =
+        let s = placed-sound d _ bytes (sym (k .done-is) ∙ t) in
+        rw (sym (places s .done-is) ∙ t, ← (places s .left-is), all-is s)
 
 -- ---- a statement
 
@@ -133,21 +143,44 @@ module _ (d : Description) (values classes : List ℕ) (kind : ℕ) (statement :
   unfolding answered keeping
   answered-took p w = rw (← p) (record { held-is = refl; goes-is = refl; text-is = w })
 
+  -- where the description breaks a rule, the register leaves what it is handed, whatever part of the room that is
+  answered-unsound : (q : Request) (a b : ℕ) {printed : ℕ} {values′ classes′ shown′ owners′ text text′ : List ℕ} {answer : Answer}
+      → sound d ≡ false
+      → outcome answer values′ classes′ shown′ owners′ ≡ run d (holding (take a values) (take b classes)) q
+      → Wrote 0 (answerText (statement .what) answer (columnCount d (statement .relation)) shown′ owners′) text text′ printed
+      → Took (answered (holds 0 d values classes) kind statement (run d (tables (holds 0 d values classes)) q)) text (values′ ++ drop a values) (classes′ ++ drop b classes) text′ (stepped true printed kind d)
+  unfolding answered keeping tables
+  answered-unsound q a b {printed} {text = text} {text′ = text′} s r w =
+      let k = r ∙ run-refused d _ q (unsound-refused d _ q s) in
+      let n = cellsOf d in
+      let v = ap (λ o. o .buffers .values ++ drop a values) k ∙ take-append-drop a values ∙ sym (take-append-drop n values) in
+      let u = ap (λ o. o .buffers .classes ++ drop b classes) k ∙ take-append-drop b classes ∙ sym (take-append-drop n classes) in
+      rw (run-refused d (holding (take n values) (take n classes)) q (unsound-refused d _ q s))
+      (record {
+        held-is = λ i. holds kind d (v i) (u i);
+        goes-is = refl;
+        text-is = subst (λ x. Wrote 0 (answerText (statement .what) (x .answer) (columnCount d (statement .relation)) (x .shown) (x .owners)) text text′ printed) (ap (λ o. o .reply) k) w;
+      })
+
   pub answer-took : (q : Request) {extent a b columns : ℕ} {values′ classes′ shown′ owners′ text text′ : List ℕ} {answer : Answer} {printed : ℕ}
-      → extent ≡ cellsOf d → a ≡ min extent (length values) → b ≡ min extent (length classes)
+      → extent ≡ totalOf d → a ≡ min extent (length values) → b ≡ min extent (length classes)
       → outcome answer values′ classes′ shown′ owners′ ≡ run d (holding (take a values) (take b classes)) q
       → columns ≡ columnCount d (statement .relation)
       → Wrote 0 (answerText (statement .what) answer columns shown′ owners′) text text′ printed
       → Took (answered (holds 0 d values classes) kind statement (run d (tables (holds 0 d values classes)) q)) text (values′ ++ drop a values) (classes′ ++ drop b classes) text′ (stepped true printed kind d)
   unfolding tables
   answer-took q {extent} {a} {b} e p s r c w =
-      let pa : a ≡ min (cellsOf d) (length values) = rw (← e) p in
-      let pb : b ≡ min (cellsOf d) (length classes) = rw (← e) s in
+      cases (sound d)
+      (λ h.
+      let x : extent ≡ cellsOf d = e ∙ sym (all-cells d h) in
+      let pa : a ≡ min (cellsOf d) (length values) = rw (← x) p in
+      let pb : b ≡ min (cellsOf d) (length classes) = rw (← x) s in
       let ta : take a values ≡ take (cellsOf d) values = rw pa (take-least (cellsOf d) values) in
       let tb : take b classes ≡ take (cellsOf d) classes = rw pb (take-least (cellsOf d) classes) in
       let da : drop a values ≡ drop (cellsOf d) values = rw pa (drop-least (cellsOf d) values) in
       let db : drop b classes ≡ drop (cellsOf d) classes = rw pb (drop-least (cellsOf d) classes) in
-      rw (da, db) (answered-took (rw (ta, tb) at r) (rw c at w))
+      rw (da, db) (answered-took (rw (ta, tb) at r) (rw c at w)))
+      (λ h. answered-unsound q a b h r (rw c at w))
 
 module _ (number : ℕ) (bytes : List ℕ) where
   read-statement : isStatement bytes ≡ true → readOf bytes number ≡ Reads.Statement (statementOf bytes) (length (listOf bytes)) (length (conditionsOf bytes))

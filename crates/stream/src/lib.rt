@@ -11,7 +11,7 @@ ghost use Prim.Native.Nat.{ℕ, min};
 ghost use Rattle.model.specs.Description.{columnCount};
 ghost use Rattle.model.specs.Run.{run};
 ghost use Rattle.register.specs.Calls.{request};
-ghost use Rattle.stream.specs.Step.{cellsOf, tables, refuses, answered, labelsTurn, relationTurn, rowTurn, statementTurn, step as stepOf};
+ghost use Rattle.stream.specs.Step.{tables, refuses, answered, labelsTurn, relationTurn, rowTurn, statementTurn, step as stepOf};
 ghost use Rattle.stream.specs.Facts.{holds, Took};
 
 // What is known after a record, beside the buffers.
@@ -82,17 +82,8 @@ fn relation(
     }
 }
 
-// How many cells the tables take; a description that breaks a rule has none.
-fn extent(description: Description) -> usize
-    ensures { λ r. ⌜ r ≡ cellsOf description ⌝ }
-{
-    if !describe::sound(description) {
-        return 0;
-    }
-    describe::total(description)
-}
-
-// A record of kind 3.
+// A record of kind 3. Whether the description breaks a rule is left to `place`, which lays out the order: no row is placed then, whatever part of
+// the room it is handed.
 fn row(
     bytes: &[u8],
     values: &mut [u32],
@@ -104,7 +95,7 @@ fn row(
 ) -> Stepped
     ensures { λ r. ⌜ Took (rowTurn (holds last description (now (values .entry)) (now (classes .entry))) number (now (bytes .entry))) (now (text .entry)) (now (values .exit)) (now (classes .exit)) (now (text .exit)) r ⌝ }
 {
-    let extent = extent(description);
+    let extent = describe::total(description);
     if values.len() < extent {
         return refuse(text, description, last, number);
     }
@@ -151,7 +142,8 @@ fn columns(description: Description, relation: u16) -> u16
     description.columns[at]
 }
 
-// The statement is run on the tables, and answered.
+// The statement is run on the tables, and answered. Whether the description breaks a rule is left to `run`, which lays out the order: it is then
+// refused, whatever part of the room is handed in.
 fn answer(
     list: &[u32],
     conditions: &[u32],
@@ -166,7 +158,7 @@ fn answer(
 ) -> Stepped
     ensures { λ r. ⌜ Took (answered (holds 0 description (now (values .entry)) (now (classes .entry))) kind statement (run description (tables (holds 0 description (now (values .entry)) (now (classes .entry)))) (request statement (now (list .entry)) (now (conditions .entry)) (now (shown .entry)) (now (owners .entry))))) (now (text .entry)) (now (values .exit)) (now (classes .exit)) (now (text .exit)) r ⌝ }
 {
-    let extent = extent(description);
+    let extent = describe::total(description);
     let a = least(extent, values.len());
     let b = least(extent, classes.len());
     let answer = register::run(

@@ -1,6 +1,6 @@
 use mathlib.Core.Path.{sym, _∙_}
 use borrow.Author.Tests.{not-true, not-false}
-use Rattle.describe.proofs.Descriptions.{between-says, bounded-of, sound-levels, sound-labels, sound-relations, sound-each, sound-total}
+use Rattle.describe.proofs.Descriptions.{between-says, sound-levels, sound-labels, sound-relations, sound-each, sound-total}
 use borrow.Author.Needs.{needs}
 use Rattle.describe.proofs.ordered.Statement.{statement}
 use Rattle.describe.proofs.ordered.Tie as tie
@@ -38,11 +38,7 @@ returns-4 : tie.Need-returns-4
 returns-4 c = sound-each _ (c .before .before .before .before .before .before .before .before .before .wide .ensures) (c .before .before .before .before .before .before .before .between .ensures) (not-false _ (c .before .before .before .before .before .before .if1 .left)) (c .before .before .before .before .before .labels .ensures) (not-false _ (c .before .before .before .before .if2 .left)) (c .before .before .before .before .before .before .before .before .wide2 .ensures) (c .before .before .before .between2 .ensures) (not-false _ (c .before .before .if3 .left)) (c .before .relations .ensures) (not-true _ (c .if4 .taken))
 
 total-requires : tie.Need-total-requires
-total-requires c κs =
-    bounded-of _
-    (between-says 1 16 _ (c .before .before .before .before .before .before .before .before .before .wide .ensures) (c .before .before .before .before .before .before .before .between .ensures) (not-false _ (c .before .before .before .before .before .before .if1 .left)) .1)
-    (between-says 1 8 _ (c .before .before .before .before .before .before .before .before .wide2 .ensures) (c .before .before .before .between2 .ensures) (not-false _ (c .before .before .if3 .left)) .1)
-    (sym (c .before .relations .ensures) ∙ not-false _ (c .if4 .left))
+total-requires c κs = search needs
 
 returns-5 : tie.Need-returns-5
 returns-5 c = sound-total _ (c .before .before .before .before .before .before .before .before .before .before .wide .ensures) (c .before .before .before .before .before .before .before .before .between .ensures) (not-false _ (c .before .before .before .before .before .before .before .if1 .left)) (c .before .before .before .before .before .before .labels .ensures) (not-false _ (c .before .before .before .before .before .if2 .left)) (c .before .before .before .before .before .before .before .before .before .wide2 .ensures) (c .before .before .before .before .between2 .ensures) (not-false _ (c .before .before .before .if3 .left)) (c .before .before .relations .ensures) (not-false _ (c .before .if4 .left)) (c .total .ensures)

@@ -1,6 +1,5 @@
 use mathlib.Core.Path.{sym, _∙_}
 use borrow.Author.Tests.{not-true, not-false}
-use Rattle.describe.proofs.Descriptions.{sane-of}
 use Rattle.judge.proofs.Passes.{judge-unsound, judge-values, judge-classes, judge-illegal, judge-legal}
 use borrow.Author.Needs.{needs}
 use Rattle.judge.proofs.verdict.Statement.{statement}
@@ -13,7 +12,7 @@ returns : tie.Need-returns
 returns c = judge-unsound _ _ (c .before .ordered .ensures) (not-true _ (c .if1 .taken))
 
 total-requires : tie.Need-total-requires
-total-requires c κs = sane-of _ (sym (c .before .ordered .ensures) ∙ not-false _ (c .if1 .left)) .bounded
+total-requires c κs = search needs
 
 returns-2 : tie.Need-returns-2
 returns-2 c = judge-values _ _ (c .before .before .before .ordered .ensures) (not-false _ (c .before .before .if1 .left)) (c .before .total .ensures) (c .if2 .taken)

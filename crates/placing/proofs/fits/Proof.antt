@@ -1,7 +1,5 @@
-use mathlib.Core.Path.{sym, _∙_}
 use borrow.Author.Needs.{needs}
 use borrow.Author.Tests.{not-true, not-false}
-use Rattle.describe.proofs.Descriptions.{sane-of}
 use Rattle.placing.proofs.Tested.{fits-unsound, fits-values, fits-classes}
 use Rattle.placing.proofs.fits.Statement.{statement}
 use Rattle.placing.proofs.fits.Tie as tie
@@ -13,7 +11,7 @@ returns : tie.Need-returns
 returns c = fits-unsound _ _ (c .before .sound .ensures) (not-true _ (c .if1 .taken))
 
 total-requires : tie.Need-total-requires
-total-requires c κs = sane-of _ (sym (c .before .sound .ensures) ∙ not-false _ (c .if1 .left)) .bounded
+total-requires c κs = search needs
 
 returns-2 : tie.Need-returns-2
 returns-2 c =

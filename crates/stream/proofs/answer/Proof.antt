@@ -5,8 +5,8 @@ use Rattle.stream.proofs.Turns.{answer-took}
 use Rattle.stream.proofs.answer.Statement.{statement}
 use Rattle.stream.proofs.answer.Tie as tie
 
-extent-requires : tie.Need-extent-requires
-extent-requires c κs = search needs
+total-requires : tie.Need-total-requires
+total-requires c κs = search needs
 
 least-requires : tie.Need-least-requires
 least-requires c κs = search needs
@@ -53,7 +53,7 @@ same-length-5 c = search needs
 returns : tie.Need-returns
 returns c =
     let r = c .before .before .before .before .before .before .before .before .before .before .before .before .before .before .before in
-    answer-took _ _ _ _ _ _ (c .before .before .before .before .before .before .before .before .before .before .before .before .before .before .before .before .before .before .before .before .before .before .extent .ensures) (c .before .before .before .before .before .before .before .before .before .before .before .before .before .before .before .before .before .before .before .before .before .least .ensures) (c .before .before .before .before .before .before .before .before .before .before .before .before .before .before .before .before .before .before .before .before .least2 .ensures) (r .run .ensures) (c .before .before .before .before .before .before .columns .ensures) (c .before .before .answer .ensures)
+    answer-took _ _ _ _ _ _ (c .before .before .before .before .before .before .before .before .before .before .before .before .before .before .before .before .before .before .before .before .before .before .total .ensures) (c .before .before .before .before .before .before .before .before .before .before .before .before .before .before .before .before .before .before .before .before .before .least .ensures) (c .before .before .before .before .before .before .before .before .before .before .before .before .before .before .before .before .before .before .before .before .least2 .ensures) (r .run .ensures) (c .before .before .before .before .before .before .columns .ensures) (c .before .before .answer .ensures)
 
 pub answer-spec : {M : Type 1} → statement M
-answer-spec = tie.close (tie.spec extent-requires least-requires least-requires-2 slice-relend-prefix-run slice-aggregate-run slice-relend-prefix-run-2 slice-aggregate-run-2 run-requires columns-requires answer-requires same-length same-length-2 same-length-3 same-length-4 same-length-5 returns)
+answer-spec = tie.close (tie.spec total-requires least-requires least-requires-2 slice-relend-prefix-run slice-aggregate-run slice-relend-prefix-run-2 slice-aggregate-run-2 run-requires columns-requires answer-requires same-length same-length-2 same-length-3 same-length-4 same-length-5 returns)

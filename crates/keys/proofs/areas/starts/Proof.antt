@@ -6,6 +6,7 @@ use lib.ListN.{length, getD, replicate, length-set}
 use Rattle.bounded.specs.Bounded.{sumBelow}
 use Rattle.bounded.proofs.Sum.{sum-start, sum-more}
 use Rattle.model.specs.Description.{sizeOf, startOf}
+use Rattle.describe.proofs.Sizes.{size-le}
 use Rattle.keys.proofs.Sets.{each-more}
 use Rattle.keys.proofs.Starts.{starts-none}
 use Rattle.keys.proofs.areas.starts.Statement.{statement}
@@ -24,10 +25,10 @@ loop-holds : tie.Need-loop-holds Inv-loop μ-loop
 loop-holds c = (omega arith, sum-start _, omega arith, refl, starts-none _ (replicate 9 0) refl refl)
 
 size-requires : tie.Need-size-requires Inv-loop μ-loop
-size-requires c κs = let s = c .before .before .before in (s .pre, omega (arith, c .before .before .wide .ensures))
+size-requires c κs = let s = c .before .before .before in omega (arith, c .before .before .wide .ensures, s .pre .relations)
 
 add-sum : tie.Need-add-sum Inv-loop μ-loop
-add-sum c = let s = c .before .before .before .before in omega (arith, c .size .ensures .1, c .before .before .before .wide .ensures, s .pre .relations)
+add-sum c = let s = c .before .before .before .before in omega (arith, c .size .ensures .0, size-le _ (s .pre) (c .before .before .loop .r), c .before .before .before .wide .ensures, s .pre .relations)
 
 add-r : tie.Need-add-r Inv-loop μ-loop
 add-r c = let s = c .before .before .before .before in omega (arith, c .before .before .before .wide .ensures, s .pre .relations)
@@ -50,7 +51,7 @@ loop-again c =
     let h : l .r + 1 < length (l .starts) = omega (arith, c .before .before .before .wide .ensures, s .pre .relations, l .inv .3) in (
       omega arith,
       e,
-      omega (arith, c .size .ensures .1),
+      omega (arith, c .size .ensures .0, size-le _ (s .pre) (l .r)),
       simp length-set (l .inv .3),
       each-more (λ k x. x ≡ startOf (s .args .d) k) (l .r + 1) (l .starts) _ h e (l .inv .4),
     )
