@@ -7,16 +7,12 @@ use denote.Ref.{now}
 use Rattle.level.proofs.Settled.{Settled}
 use Rattle.cells.specs.Changed.{holding}
 use Rattle.cells.proofs.Settled.{one-buffers}
-use Rattle.above.proofs.find.near.Reads as near
 use Rattle.above.proofs.find.touched.Reads as touched
 use Rattle.above.proofs.find.gone.Reads as gone
 use Rattle.above.proofs.find.agree.Reads as agree
 use Rattle.above.proofs.above.Reads as above
 
 -- ---- readers
-
-pub near-settled : Settled near.Post
-near-settled κs a x y e f p q = p .is ∙ sym (q .is)
 
 pub touched-settled : Settled touched.Post
 touched-settled κs a x y e f p q = p ∙ sym q

@@ -17,7 +17,7 @@ ghost use Rattle.cells.specs.Changed.{holding, keyPlace};
 ghost use Rattle.above.specs.Facts.{OneRow, touchedBy, goneBy};
 
 // The row of a key at a level, looked for at `hint` first: entities tend to stand in the same row everywhere.
-pub fn near(
+fn near(
     values: &[u32],
     description: Description,
     relation: usize,
@@ -37,7 +37,7 @@ pub fn near(
 }
 
 // Whether the entity of a row has a marked row at the subject's level.
-pub fn touched(
+pub(crate) fn touched(
     values: &[u32],
     classes: &[u8],
     marks: &[bool],
@@ -69,7 +69,7 @@ pub fn touched(
 }
 
 // Whether the row with a key at a level is emptied: a marked entity of the subject's own.
-pub fn gone(
+pub(crate) fn gone(
     values: &[u32],
     classes: &[u8],
     description: Description,

@@ -101,7 +101,7 @@ fn given(
 
 // A level, where it is above the subject's. Whether a taken reference is lost, and which references name rows to be emptied, is read before
 // those rows are.
-pub fn reach(
+pub(crate) fn reach(
     values: &mut [u32],
     classes: &mut [u8],
     description: Description,

@@ -197,7 +197,7 @@ fn referrer(
 }
 
 // The references of every relation that refers to it: only relations with higher numbers do.
-pub fn referrers(
+pub(crate) fn referrers(
     values: &mut [u32],
     classes: &[u8],
     description: Description,

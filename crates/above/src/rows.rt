@@ -180,7 +180,7 @@ fn row(
 }
 
 // Every row of the relation at a level.
-pub fn rows(
+pub(crate) fn rows(
     values: &mut [u32],
     classes: &mut [u8],
     description: Description,

@@ -14,7 +14,7 @@ pub fn over(description: Description, order: [[bool; 16]; 16], a: usize, b: usiz
 }
 
 // Whether a level is in the range of a column, which must exist.
-pub fn takes(
+pub(crate) fn takes(
     description: Description,
     order: [[bool; 16]; 16],
     relation: usize,

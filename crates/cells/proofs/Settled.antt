@@ -22,7 +22,6 @@ use Rattle.cells.proofs.write.put.Reads as put
 use Rattle.cells.proofs.write.put_value.Reads as put-value
 use Rattle.cells.proofs.search.find.Reads as find
 use Rattle.cells.proofs.search.entity.Reads as entity
-use Rattle.cells.proofs.read.is_null.Reads as is-null
 use Rattle.cells.proofs.read.is_empty.Reads as is-empty
 use Rattle.cells.proofs.search.lowest.Reads as lowest
 use Rattle.cells.proofs.write.clear.Reads as clear
@@ -48,9 +47,6 @@ find-settled κs a x y e f p q = p .is ∙ sym (q .is)
 
 pub entity-settled : Settled entity.Post
 entity-settled κs a x y e f p q = p .is ∙ sym (q .is)
-
-pub is-null-settled : Settled is-null.Post
-is-null-settled κs a x y e f p q = p ∙ sym q
 
 pub is-empty-settled : Settled is-empty.Post
 is-empty-settled κs a x y e f p q = p ∙ sym q

@@ -70,7 +70,7 @@ pub fn lay(description: Description, relation: usize) -> Part
 }
 
 // The place of a cell in both buffers.
-pub fn place(
+pub(crate) fn place(
     description: Description,
     relation: usize,
     part: Part,

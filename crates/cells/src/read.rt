@@ -47,7 +47,7 @@ pub fn class_at(
 }
 
 // Whether a cell is (0, 255).
-pub fn is_null(
+fn is_null(
     values: &[u32],
     classes: &[u8],
     description: Description,
@@ -68,7 +68,7 @@ pub fn is_null(
 }
 
 // Whether a row is empty throughout.
-pub fn is_empty(
+pub(crate) fn is_empty(
     values: &[u32],
     classes: &[u8],
     description: Description,

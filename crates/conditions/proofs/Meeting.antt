@@ -12,7 +12,7 @@ use Rattle.bounded.specs.Bounded.{allBelow}
 use Rattle.bounded.proofs.All.{all-fails, all-end}
 use Rattle.bounded.proofs.Cases.{cases, and-false-right}
 use Rattle.bounded.proofs.Reflection.{is-true, is-false, of-true, bool-r, and-r, all-r, leb-r}
-use Rattle.level.proofs.Levels.{order-laws, entry-read, row-long}
+use Rattle.level.proofs.Levels.{order-laws}
 use Rattle.model.specs.declared.Description.{Description}
 use Rattle.model.specs.Description.{between, isColumn, columnCount, over}
 use Rattle.model.specs.Listed.{whole}
@@ -124,10 +124,10 @@ line-none d order a o h = record { long = refl; right = λ b. none b ∙ sym (ov
 
 -- a row of the order
 pub line-of : (d : Description) (order : List (List Bool)) (a : ℕ) → Ordered d order → a < 16 → Line d a (getD order a [])
-line-of d order a o h = record { long = long; right = λ b. cases (ltb b 16) (λ t. sym (entry-read order a b h (ltb-true b 16 t)) ∙ over-entry d order o a b) (λ t. past b (ltb-false b 16 t)) }
+line-of d order a o h = record { long = long; right = λ b. cases (ltb b 16) (λ t. sym (order-laws (d .labels) (d .levels) .read order a b h (ltb-true b 16 t)) ∙ over-entry d order o a b) (λ t. past b (ltb-false b 16 t)) }
   where
     long : length (getD order a []) ≡ 16
-    long = rw (o .order-is) (row-long (d .labels) (d .levels) a h)
+    long = rw (o .order-is) (order-laws (d .labels) (d .levels) .long a h)
 
     past : (b : ℕ) → 16 ≤ b → getD (getD order a []) b false ≡ over d a b
     past b k = List·getD-eq-default (getD order a []) false {n = b} (omega (arith, long)) ∙ sym (over-outside d order o a b (λ p q. omega arith))

@@ -131,7 +131,7 @@ fn cell(
 }
 
 // Every column of a row with a key.
-pub fn cells(
+pub(crate) fn cells(
     values: &[u32],
     classes: &[u8],
     keys: &[u32],
@@ -201,7 +201,7 @@ fn blank(
 }
 
 // Every column of a row with no key.
-pub fn empty(
+pub(crate) fn empty(
     values: &[u32],
     classes: &[u8],
     keys: &[u32],

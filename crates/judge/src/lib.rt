@@ -17,12 +17,7 @@ ghost use Rattle.model.specs.Judge as judges;
 
 // The tables are legal. The order and the ranges are laid out as words and the keys side by side; that no key stands twice at a level is tested
 // first, then each row and cell once.
-pub fn legal(
-    description: Description,
-    order: [[bool; 16]; 16],
-    values: &[u32],
-    classes: &[u8],
-) -> bool
+fn legal(description: Description, order: [[bool; 16]; 16], values: &[u32], classes: &[u8]) -> bool
     requires { ⌜ (descriptions.sound description ≡ true) × (order ≡ orderOf (description .labels) (description .levels)) ⌝ }
     requires { ⌜ (length (now values) ≡ descriptions.totalOf description) × (length (now classes) ≡ descriptions.totalOf description) ⌝ }
     ensures { λ r. ⌜ r ≡ judges.legal description (stateOf description (record { values = now (values .entry); classes = now (classes .entry) })) ⌝ }

@@ -67,7 +67,7 @@ fn names(
 }
 
 // The reference of a row with a key.
-pub fn reference(
+pub(crate) fn reference(
     values: &[u32],
     classes: &[u8],
     keys: &[u32],

@@ -201,7 +201,7 @@ fn relation(
 }
 
 // Every row of every relation.
-pub fn tables(
+pub(crate) fn tables(
     values: &[u32],
     classes: &[u8],
     keys: &[u32],

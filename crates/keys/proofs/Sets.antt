@@ -7,16 +7,17 @@ use Prim.Native.Nat.{ℕ, zero, suc, _+_, _*_, _/_, _%_, _^_, _≤_, _<_, max}
 use native.Mathlib.Nat.{lt-of-lt-of-le, div-eq-of-lt, div-self, zero-div, pow-suc, one-mul, le-refl}
 use native.Mathlib.Numerals.{one-add}
 use native.Mathlib.Omega.{arith}
+use lib.Arith.{bin-ind}
 use lib.Pow.{pow-mono, pow-pos, shr-shr, shl-exact}
 use lib.Dec.{eqb, ltb}
 use lib.Bits.{bitAnd, bitOr, and-step, and-shr, or-step, or-shr}
 use lib.ListN.{length, getD, set, length-set}
-use lib.Seq.{getD-set-same, getD-set-other}
+use lib.Seq.{ext-getD, getD-set-same, getD-set-other}
 use borrow.Author.Count.{below-more}
 use borrow.Author.Tests.{eq-eqb, ne-eqb, eqb-true, eqb-false, lt-ltb, le-ltb, ltb-true, ltb-false}
 use Rattle.bounded.proofs.Cases.{cases, and-false-right}
 use Rattle.level.specs.Order.{orderOf}
-use Rattle.level.proofs.Levels.{entry-read}
+use Rattle.level.proofs.Levels.{order-laws}
 use Rattle.model.specs.declared.Description.{Description}
 use Rattle.model.specs.Description.{over}
 use Rattle.describe.specs.Facts.{Leveled}
@@ -109,11 +110,11 @@ word-more f b w {on} {r} D e W =
 module _ (order : List (List Bool)) (turned : Bool) (a b : ℕ) (ha : a < 16) (hb : b < 16) where
   pub pair-as : turned ≡ false → getD (getD order a []) b false ≡ pairOf order turned a b
   unfolding pairOf
-  pair-as t = rw t (sym (entry-read order a b ha hb))
+  pair-as t = rw t (sym (order-laws [] 0 .read order a b ha hb))
 
   pub pair-turned : turned ≡ true → getD (getD order b []) a false ≡ pairOf order turned a b
   unfolding pairOf
-  pair-turned t = rw t (sym (entry-read order b a hb ha))
+  pair-turned t = rw t (sym (order-laws [] 0 .read order b a hb ha))
 
 -- ---- a list that is filled one number after the other
 
@@ -136,6 +137,38 @@ ranges-more d p w ws h W G =
       long = length-set ws p w ∙ G .long;
       right = each-more (λ k x. Within d (getD (d .low) k 0) (getD (d .high) k 0) x) p ws w (omega (arith, G .long)) W (G .right);
     }
+
+-- ---- at most one
+
+-- numbers with the same digits are one
+number-one : (v w : ℕ) → ((c : ℕ) → bit v c ≡ bit w c) → v ≡ w
+number-one =
+    bin-ind (λ (v : ℕ). (w : ℕ) → ((c : ℕ) → bit v c ≡ bit w c) → v ≡ w)
+    (bin-ind (λ (w : ℕ). ((c : ℕ) → bit 0 c ≡ bit w c) → 0 ≡ w)
+    (λ h. refl)
+    (λ w ih h. omega (arith, ih (λ c. sym (bit-suc 0 c) ∙ h (suc c) ∙ bit-suc w c), h 0)))
+    (λ v ih w h. omega (arith, ih (w / 2) (λ c. sym (bit-suc v c) ∙ h (suc c) ∙ bit-suc w c), h 0))
+
+one-digit : (a b : ℕ) → a < 2 → b < 2 → eqb a 1 ≡ eqb b 1 → a ≡ b
+one-digit a b h k e =
+    cases (eqb a 1)
+    (λ t. omega (arith, eqb-true a 1 t, eqb-true b 1 (sym e ∙ t)))
+    (λ t. let n = eqb-false a 1 t in let m = eqb-false b 1 (sym e ∙ t) in omega arith)
+
+-- a set is one number
+set-one : (v w : ℕ) → ((c : ℕ) → hasBit v c ≡ hasBit w c) → v ≡ w
+unfolding hasBit
+set-one v w h = number-one v w (λ c. one-digit (bit v c) (bit w c) (omega arith) (omega arith) (h c))
+
+pub words-one : (order : List (List Bool)) (turned : Bool) (x y : List ℕ) → Words order turned 16 x → Words order turned 16 y → x ≡ y
+words-one order turned x y p q =
+    ext-getD 0 x y (p .long ∙ sym (q .long))
+    (λ i h. let l : i < 16 = omega (arith, p .long) in set-one _ _ (λ c. p .right i l .right c ∙ sym (q .right i l .right c)))
+
+pub ranges-one : (d : Description) (x y : List ℕ) → Ranges d 81 x → Ranges d 81 y → x ≡ y
+ranges-one d x y p q =
+    ext-getD 0 x y (p .long ∙ sym (q .long))
+    (λ i h. let l : i < 81 = omega (arith, p .long) in set-one _ _ (λ c. p .right i l .right c ∙ sym (q .right i l .right c)))
 
 -- ---- the order
 

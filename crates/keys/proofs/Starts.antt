@@ -1,15 +1,18 @@
 -- Where the cells of each relation stand, and the keys that are gathered from them.
 -- Assumes nothing.
-use mathlib.Core.Path.{_≡_, refl, _∙_}
+use mathlib.Core.Path.{_≡_, refl, sym, _∙_}
 use mathlib.Core.Bool.{Bool}
 use mathlib.Core.List.{List}
 use Prim.Native.Nat.{ℕ, zero, suc, _+_, _*_, _≤_, _<_}
 use native.Mathlib.Nat.{le-mul-of-pos-right}
 use native.Mathlib.Numerals.{add-one}
 use native.Mathlib.Omega.{arith}
-use lib.ListN.{length, getD}
+use lib.Dec.{ltb}
+use lib.ListN.{length, getD, replicate}
+use lib.Seq.{ext-getD}
+use borrow.Author.Tests.{ltb-true, ltb-false}
 use Rattle.bounded.specs.Bounded.{allBelow, sumBelow}
-use Rattle.bounded.proofs.Cases.{split-last}
+use Rattle.bounded.proofs.Cases.{cases, split-last}
 use Rattle.bounded.proofs.Sum.{sum-mono}
 use Rattle.model.specs.declared.Description.{Description}
 use Rattle.model.specs.Description.{columnCount, rowCount, foreignOf, sizeOf, startOf, totalOf}
@@ -18,11 +21,24 @@ use Rattle.keys.specs.declared.areas.Area.{Area}
 use Rattle.describe.specs.Facts.{Sane}
 use Rattle.keys.specs.Facts.{firstOf, Starting, areaOf, Gathered, Keyed}
 
+pub noughts : (n k : ℕ) → getD {A = ℕ} (replicate n 0) k 0 ≡ 0
+noughts zero k = refl
+noughts (suc n) zero = refl
+noughts (suc n) (suc k) = noughts n k
+
 module _ (d : Description) where
   pub starts-none : (ss : List ℕ) → length ss ≡ 9 → getD ss 0 0 ≡ 0 → (k : ℕ) → k < 0 + 1 → getD ss k 0 ≡ startOf d k
   unfolding startOf sumBelow
   starts-none ss e z zero h = z
   starts-none ss e z (suc k) h = absurd (omega arith)
+
+  -- the starts are one list
+  pub starts-one : (x y : List ℕ) → Starting d x → Starting d y → x ≡ y
+  starts-one x y p q =
+      ext-getD 0 x y (p .long ∙ sym (q .long))
+      (λ i h. cases (ltb (d .relations) i)
+      (λ t. let l = ltb-true (d .relations) i t in p .rest i l ∙ sym (q .rest i l))
+      (λ t. let l = ltb-false (d .relations) i t in p .right i l ∙ sym (q .right i l)))
 
   pub start-room : (q : ℕ) → q ≤ d .relations → startOf d q + sizeOf d q ≤ totalOf d
   unfolding startOf totalOf

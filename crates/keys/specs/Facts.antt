@@ -16,10 +16,11 @@ use Rattle.keys.specs.declared.areas.Area.{Area}
 
 -- ---- where the relations stand
 
--- where the cells of each relation start
+-- where the cells of each relation start; 0 for no relation
 pub record Starting (d : Description) (ss : List ℕ) : Type 0 where
   pub long : length ss ≡ 9
   pub right : (r : ℕ) → r ≤ d .relations → getD ss r 0 ≡ startOf d r
+  pub rest : (r : ℕ) → d .relations < r → getD ss r 0 ≡ 0
 
 abbrev pub areaOf : Description → List ℕ → ℕ → Area
 areaOf d ss r =

@@ -18,6 +18,10 @@ use Rattle.level.proofs.Fill.{getD-upTo, length-upTo}
 not-lt : {a b : ℕ} → (a < b → ⊥) → b ≤ a
 not-lt h = omega arith
 
+read : (order : List (List Bool)) (a b : ℕ) → a < 16 → b < 16 → entryOf order a b ≡ getD (getD order a []) b false
+unfolding entryOf
+read order a b h k = rw (lt-ltb a 16 h, lt-ltb b 16 k)
+
 module _ (labels : List ℕ) (n : ℕ) where
   record Pair (a b : ℕ) : Type 0 where
     high : a < n
@@ -81,15 +85,9 @@ module _ (labels : List ℕ) (n : ℕ) where
       go (yes h) (no k) = let m : a < 16 → b < 16 → ⊥ = λ _ b. k b in outside a b m ∙ sym (no-level l a b m)
       go (no h) _ = let m : a < 16 → b < 16 → ⊥ = λ a _. h a in outside a b m ∙ sym (no-level l a b m)
 
+  long : (a : ℕ) → a < 16 → length (getD (orderOf labels n) a []) ≡ 16
+  unfolding orderOf rowOf
+  long a h = rw (getD-upTo 16 (rowOf labels n) a [] h) (length-upTo 16 (levelDominates labels n a))
+
   pub order-laws : OrderLaws labels n
-  order-laws = record { inside = inside; outside = outside; entries = entries }
-
--- inside its 16 by 16, an entry is read row first
-pub entry-read : (order : List (List Bool)) (a b : ℕ) → a < 16 → b < 16 → entryOf order a b ≡ getD (getD order a []) b false
-unfolding entryOf
-entry-read order a b h k = rw (lt-ltb a 16 h, lt-ltb b 16 k)
-
--- each row of the order has 16 entries
-pub row-long : (labels : List ℕ) (n a : ℕ) → a < 16 → length (getD (orderOf labels n) a []) ≡ 16
-unfolding orderOf rowOf
-row-long labels n a h = rw (getD-upTo 16 (rowOf labels n) a [] h) (length-upTo 16 (levelDominates labels n a))
+  order-laws = record { inside = inside; outside = outside; entries = entries; long = long; read = read }

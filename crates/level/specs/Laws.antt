@@ -3,9 +3,9 @@
 use Prim.Native.Nat.{ℕ, _<_, _≤_}
 use mathlib.Core.Path.{_≡_}
 use mathlib.Core.Logic.{_≢_}
-use mathlib.Core.Bool.{true, false}
-use mathlib.Core.List.{List}
-use lib.ListN.{getD}
+use mathlib.Core.Bool.{Bool, true, false}
+use mathlib.Core.List.{List, []}
+use lib.ListN.{length, getD}
 use Rattle.level.specs.Label.{dominates, bottomLabel, heightOf}
 use Rattle.level.specs.Order.{levelDominates, orderOf, entryOf}
 
@@ -32,8 +32,12 @@ pub record LevelLaws (labels : List ℕ) (n : ℕ) : Type 0 where
   pub antisymmetric : (a b : ℕ) → levelDominates labels n a b ≡ true → levelDominates labels n b a ≡ true → a ≡ b
   pub higher : (a b : ℕ) → levelDominates labels n a b ≡ true → a ≢ b → heightOf (getD labels b 0) < heightOf (getD labels a 0)
 
--- Of the order that is laid out.
+-- Of the order that is laid out; `read` is of any list of rows.
 pub record OrderLaws (labels : List ℕ) (n : ℕ) : Type 0 where
   pub inside : (a b : ℕ) → a < 16 → b < 16 → entryOf (orderOf labels n) a b ≡ levelDominates labels n a b
   pub outside : (a b : ℕ) → (a < 16 → b < 16 → ⊥) → entryOf (orderOf labels n) a b ≡ false
   pub entries : n ≤ 16 → (a b : ℕ) → entryOf (orderOf labels n) a b ≡ levelDominates labels n a b
+  -- each row has 16 entries
+  pub long : (a : ℕ) → a < 16 → length (getD (orderOf labels n) a []) ≡ 16
+  -- inside the 16 by 16, an entry is read row first
+  pub read : (order : List (List Bool)) (a b : ℕ) → a < 16 → b < 16 → entryOf order a b ≡ getD (getD order a []) b false

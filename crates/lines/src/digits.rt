@@ -7,7 +7,7 @@ ghost use Rattle.lines.specs.Lines.{space};
 ghost use Rattle.lines.specs.Written.{Wrote};
 
 // One byte.
-pub fn put(text: &mut [u8], at: usize, byte: u8) -> usize
+pub(crate) fn put(text: &mut [u8], at: usize, byte: u8) -> usize
     requires { ⌜ at < 2 ^ 63 ⌝ }
     ensures { λ r. ⌜ Wrote at (byte ∷ []) (now (text .entry)) (now (text .exit)) r ⌝ }
 {
@@ -27,7 +27,7 @@ fn digit(number: u64) -> u8
 }
 
 // The decimal digits of a number.
-pub fn decimal(text: &mut [u8], at: usize, number: u64) -> usize
+pub(crate) fn decimal(text: &mut [u8], at: usize, number: u64) -> usize
     requires { ⌜ at < 2 ^ 62 ⌝ }
     ensures { λ r. ⌜ Wrote at (decimalOf number) (now (text .entry)) (now (text .exit)) r × (r ≤ at + 20) ⌝ }
 {
@@ -39,7 +39,7 @@ pub fn decimal(text: &mut [u8], at: usize, number: u64) -> usize
 }
 
 // A space and a number.
-pub fn spaced(text: &mut [u8], at: usize, number: u64) -> usize
+pub(crate) fn spaced(text: &mut [u8], at: usize, number: u64) -> usize
     requires { ⌜ at < 2 ^ 61 ⌝ }
     ensures { λ r. ⌜ Wrote at (space ∷ decimalOf number) (now (text .entry)) (now (text .exit)) r × (r ≤ at + 21) ⌝ }
 {
@@ -48,7 +48,7 @@ pub fn spaced(text: &mut [u8], at: usize, number: u64) -> usize
 }
 
 // A letter, a space and a number.
-pub fn head(text: &mut [u8], at: usize, letter: u8, number: u64) -> usize
+pub(crate) fn head(text: &mut [u8], at: usize, letter: u8, number: u64) -> usize
     requires { ⌜ at < 2 ^ 60 ⌝ }
     ensures { λ r. ⌜ Wrote at (letter ∷ space ∷ decimalOf number) (now (text .entry)) (now (text .exit)) r × (r ≤ at + 22) ⌝ }
 {

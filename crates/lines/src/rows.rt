@@ -92,7 +92,7 @@ fn row(shown: &[u32], owners: &[u8], text: &mut [u8], at: usize, columns: usize,
 }
 
 // The lines of so many rows.
-pub fn rows(
+pub(crate) fn rows(
     shown: &[u32],
     owners: &[u8],
     text: &mut [u8],

@@ -139,7 +139,7 @@ fn wide(n: u16) -> usize
 }
 
 // The subject's level and the relation exist, and the lists are well formed.
-pub fn statement(
+pub(crate) fn statement(
     list: &[u32],
     conditions: &[u32],
     description: Description,

@@ -99,7 +99,7 @@ fn carry(
 }
 
 // A statement is refused where it is not well formed, and carried out else.
-pub fn serve(
+pub(crate) fn serve(
     values: &mut [u32],
     classes: &mut [u8],
     list: &[u32],

@@ -27,7 +27,7 @@ ghost use Rattle.change.specs.Facts.{Standing, sight};
 ghost use Rattle.uplevel.specs.Raising.{Listing, spotOf, planOf};
 
 // The entity's row, which is row `here`, or the lowest empty one.
-pub fn spot(
+pub(crate) fn spot(
     values: &[u32],
     classes: &[u8],
     description: Description,
@@ -107,7 +107,7 @@ fn write(
 }
 
 // The new row replaces the entity's row, which is row `here`, or takes the lowest empty one, and is counted.
-pub fn place(
+pub(crate) fn place(
     values: &mut [u32],
     classes: &mut [u8],
     list: &[u32],

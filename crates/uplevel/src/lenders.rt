@@ -19,7 +19,7 @@ ghost use Rattle.above.specs.Facts.{Reaching};
 ghost use Rattle.uplevel.specs.Raising.{strayed};
 
 // The value that a level lends an entity in a column: its own, or 0.
-pub fn lent(
+pub(crate) fn lent(
     values: &[u32],
     classes: &[u8],
     description: Description,
@@ -54,7 +54,7 @@ pub fn lent(
 }
 
 // Whether a borrowed value is a reference that names another entity at the subject's level than at the lender's.
-pub fn strays(
+pub(crate) fn strays(
     values: &[u32],
     classes: &[u8],
     description: Description,

@@ -128,7 +128,7 @@ fn borrow(
 }
 
 // The new row.
-pub fn compose(
+pub(crate) fn compose(
     values: &[u32],
     classes: &[u8],
     list: &[u32],

@@ -12,7 +12,7 @@ ghost use Rattle.change.specs.Facts.{Standing, sight};
 ghost use Rattle.uplevel.specs.Raising.{severalBased};
 
 // Whether the entity with a key and a key class has a base row that the subject sees.
-pub fn based(
+pub(crate) fn based(
     values: &[u32],
     classes: &[u8],
     description: Description,
@@ -118,7 +118,7 @@ fn bases(
 }
 
 // The key class that is given, or the lowest with a base row that the subject sees.
-pub fn own(
+pub(crate) fn own(
     values: &[u32],
     classes: &[u8],
     description: Description,
@@ -149,7 +149,7 @@ pub fn own(
 }
 
 // Whether no key class is given and there are several.
-pub fn several(
+pub(crate) fn several(
     values: &[u32],
     classes: &[u8],
     description: Description,

@@ -87,7 +87,7 @@ fn taken(
 }
 
 // The tests after the entity is known, in their order; its row at the subject's level is row `here`.
-pub fn check(
+pub(crate) fn check(
     values: &[u32],
     classes: &[u8],
     list: &[u32],
