@@ -37,7 +37,7 @@ pub fn reason(number: u32, asked: &Asked) -> Option<String> {
             Some((column, level)) => format!("{level} is outside the range of {column}"),
             None => "it writes or borrows at a level outside a column's range".to_string(),
         },
-        7 => format!("no entity with key {} is visible to {subject}", key(asked)),
+        7 => format!("no entity with key {}{} is visible to {subject}", key(asked), of_class(asked)),
         8 => format!("several entities with key {} are visible to {subject}, and no CLASS says which is meant", key(asked)),
         9 if uplevel => format!("another entity has key {} at {subject} already", key(asked)),
         9 => format!("there is a row with key {} at {subject} already", key(asked)),
@@ -80,10 +80,16 @@ fn outside(asked: &Asked) -> Option<(String, String)> {
 
 fn key(asked: &Asked) -> String {
     match asked.what {
-        What::Uplevel { key, class, .. } if *class != NO_CLASS => format!("{key} of {}", asked.names.level((*class).into())),
         What::Uplevel { key, .. } => key.to_string(),
         What::Insert { values } => values.iter().find(|(column, _)| *column == 1).map_or("0".to_string(), |(_, key)| key.to_string()),
         _ => "asked for".to_string(),
+    }
+}
+
+fn of_class(asked: &Asked) -> String {
+    match asked.what {
+        What::Uplevel { class, .. } if *class != NO_CLASS => format!(" of {}", asked.names.level((*class).into())),
+        _ => String::new(),
     }
 }
 
