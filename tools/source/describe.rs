@@ -8,11 +8,11 @@ use crate::record::{Cell, Record, Relation, NO_CLASS};
 pub fn labels(line: &mut Line) -> Read<(Record, Naming)> {
     let mut levels = Vec::new();
     let labels = items(line, "a label", |line| {
-        let name = if line.at_naming() { Some(line.new_name("a level's name", &levels)?) } else { None };
-        if name.is_some() {
+        let named = line.at_name("a level's name");
+        levels.push(if named { Some(line.new_name("a level's name", &levels)?) } else { None });
+        if named {
             line.need("=")?;
         }
-        levels.push(name);
         line.half("a label")
     })?;
     Ok((Record::Labels(labels), Naming::Levels(levels)))

@@ -39,16 +39,24 @@ const FORM: &str = include_str!("form.txt");
 // The number of the text form.
 const VERSION: &str = "records 1\n";
 
-const USAGE: &str = "expected one of
-    tools/records run [--with PROGRAM] [FILE]   runs a text, with each answer in words
+const USAGE: &str = "    tools/records run [--with PROGRAM] [FILE]   runs a text, and says each answer in words
     tools/records pack [FILE]                   text to records
     tools/records unpack [FILE]                 records to text
     tools/records help                          the text form
-    tools/records --help | --version
+    tools/records --help                        this
+    tools/records --version                     the number of the text form
 Without FILE, or where it is -, standard input is read. The result goes to standard output.
-run takes PROGRAM for mlrun, or else the one that tools/program finds or builds.
-Status: 0 done, with no statement refused; 1 a statement was refused, or the text is wrong; 2 the call is wrong, or something can't be read or
-written; 3 mlrun can't be started or fails; 141 nobody reads the output any more.
+";
+
+const MORE: &str = "
+run takes PROGRAM for mlrun; without --with, the one that tools/program finds or builds.
+
+Exit status:
+    0      all is done; with run, every statement
+    1      a statement was refused, a record can't be read, or the text is wrong
+    2      the call is wrong, or something can't be read or written
+    3      mlrun can't be started, dies, or writes what doesn't fit the statements
+    141    nobody reads the output any more
 ";
 
 fn main() -> ExitCode {
@@ -65,10 +73,10 @@ fn main() -> ExitCode {
 }
 
 fn call(words: &[OsString]) -> Result<u8, Stop> {
-    let usage = || Stop::Call(format!("tools/records: {}", USAGE.trim_end()));
+    let usage = || Stop::Call(format!("tools/records: expected one of\n{}", USAGE.trim_end()));
     let (command, rest) = words.split_first().ok_or_else(usage)?;
     match (command.to_str().unwrap_or(""), rest) {
-        ("--help" | "-h", []) => put(USAGE.trim_start_matches("expected ").as_bytes())?,
+        ("--help" | "-h", []) => put(format!("{USAGE}{MORE}").as_bytes())?,
         ("--version", []) => put(VERSION.as_bytes())?,
         ("help", []) => put(FORM.as_bytes())?,
         ("pack", files) => pack(Input::open(file(files).ok_or_else(usage)?)?)?,

@@ -20,6 +20,8 @@ mod write;
 
 use record::{Cell, Condition, Record, Relation, What, MOST};
 
+const FORM: &str = include_str!("form.txt");
+
 struct Chance(u64);
 
 impl Chance {
@@ -132,7 +134,7 @@ impl Chance {
 
     // A text with a letter changed, put in or taken out.
     fn changed(&mut self, text: &str) -> String {
-        const LETTERS: &[char] = &['0', '9', ' ', '=', '!', '<', '/', '-', '.', ',', '#', 'A', 'z', '\n', '\r', '\t', 'ä', '\u{0}', '\u{feff}'];
+        const LETTERS: &[char] = &['0', '9', ' ', '=', '!', '<', '/', '-', '.', ',', '#', 'A', 'z', 'l', '\n', '\r', '\t', 'ä', '\u{0}', '\u{feff}'];
         let mut letters: Vec<char> = text.chars().collect();
         let at = self.below(letters.len() + 1);
         let letter = LETTERS[self.below(LETTERS.len())];
@@ -216,6 +218,8 @@ fn main() {
         tell(both_ways(&damaged), "a damaged stream", case, &damaged);
         let text = chance.changed(&write::unpack(&stream));
         tell(refused_or_sound(&text), "a changed text", case, text.as_bytes());
+        let named = chance.changed(FORM);
+        tell(refused_or_sound(&named), "a changed text with names", case, named.as_bytes());
     }
     println!("{passed} passed, {failed} failed");
     std::process::exit((failed > 0 || passed == 0) as i32);
