@@ -8,7 +8,6 @@ mod stream;
 mod tables;
 
 use statements::{Kind, Statement};
-use std::hint::black_box;
 use std::io::Write;
 use std::process::{Command, Stdio};
 use std::time::Instant;
@@ -18,6 +17,12 @@ const SET: [u32; 14] = [2, 5, 3, 5, 4, 5, 5, 5, 6, 5, 7, 5, 8, 5];
 const FROM: [u32; 14] = [2, 0, 3, 0, 4, 0, 5, 0, 6, 0, 7, 0, 8, 0];
 const AT: [u32; 16] = [15, 14, 13, 12, 11, 10, 9, 8, 7, 6, 5, 4, 3, 2, 1, 0];
 const CONDITIONS: [u32; 16] = [1, 0, 2, 1, 1, 1, 4, 15, 2, 0, 3, 4_000_000_000, 3, 0, 2, 7];
+
+// A value that the compiler can't see through. `std::hint::black_box` asks for rustc 1.66.
+fn black_box<T: Copy>(value: T) -> T {
+    // SAFETY: a reference to a live value is read, and the value may be copied.
+    unsafe { std::ptr::read_volatile(&value) }
+}
 
 // What is timed: 0 the judge, 1 to 4 a statement, with its name and how many rows it counts in a relation of `rows` rows.
 const WHAT: [&str; 5] = ["judge", "DELETE of all rows of the lowest level", "UPDATE of 7 columns of all rows of it", "UPLEVEL of 7 columns at the highest", "SELECT of all levels under 4 conditions"];

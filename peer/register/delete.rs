@@ -88,8 +88,8 @@ fn null_reference(reference: &mut Cell, level: usize, key: u32) {
 /// "If its key class is below c, cells of class c in that entity's rows above c become null, class kept."
 fn null_cells_above(description: &Description, new: &mut Tables, delete: &Delete, who: Entity) {
     for level in description.levels_above(delete.level) {
-        let Some(row) = new.row_of_mut(delete.relation, level, who) else { continue };
-        for cell in row.iter_mut().filter(|cell| cell.class == delete.level) {
+        let row = new.row_of_mut(delete.relation, level, who).into_iter().flatten();
+        for cell in row.filter(|cell| cell.class == delete.level) {
             if cell.value != 0 {
                 reached::note("DELETE, a cell of its class above nulled");
             }

@@ -107,9 +107,7 @@ impl Program {
     /// "a row that can't be placed (no such place, wrong cell count, class over 255)"; it "goes to the lowest empty row".
     fn place(&mut self, relation: usize, level: usize, row: Row) -> Result<(), &'static str> {
         self.lay_out_tables();
-        let Some(tables) = &mut self.tables else {
-            return Err("a row on a description that breaks a rule");
-        };
+        let tables = self.tables.as_mut().ok_or("a row on a description that breaks a rule")?;
         if !self.description.has_relation(relation) {
             return Err("a row of no such relation");
         }

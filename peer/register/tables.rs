@@ -107,7 +107,7 @@ impl Tables {
     /// Empties the row of an entity, if there is one.
     pub fn empty_row_of(&mut self, relation: usize, level: usize, who: Entity) {
         for place in self.places_mut(relation, level) {
-            if place.as_ref().is_some_and(|row| entity(row) == who) {
+            if place.as_ref().map(entity) == Some(who) {
                 *place = None;
             }
         }

@@ -81,7 +81,10 @@ fn with_cells_set(description: &Description, tables: &Tables, update: &Update, m
 /// "In that entity's rows above c, cells of class c in that column take the value."
 fn set_above(description: &Description, old: &Tables, new: &mut Tables, update: &Update, who: Entity, (column, value): (usize, u32)) {
     for level in description.levels_above(update.level) {
-        let Some(row) = new.row_of_mut(update.relation, level, who) else { continue };
+        let row = match new.row_of_mut(update.relation, level, who) {
+            Some(row) => row,
+            None => continue,
+        };
         let cell = &mut row[column - 1];
         if cell.class != update.level {
             continue;

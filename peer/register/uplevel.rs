@@ -19,7 +19,7 @@ pub struct Uplevel {
 pub fn answer(description: &Description, tables: &Tables, uplevel: &Uplevel) -> Outcome {
     let entities = visible_entities(description, tables, uplevel);
     let only = if entities.len() == 1 { Some(entities[0]) } else { None };
-    let asked = |test: &dyn Fn(Entity) -> bool| only.is_some_and(test);
+    let asked = |test: &dyn Fn(Entity) -> bool| only.map_or(false, test);
     let grounds = [
         (5, not_dominated(description, uplevel)),
         (6, out_of_range(description, uplevel)),
@@ -85,7 +85,7 @@ fn out_of_range(description: &Description, uplevel: &Uplevel) -> bool {
 /// Number 9: "UPLEVEL: another entity has that key at c".
 fn another_has_key(tables: &Tables, uplevel: &Uplevel, who: Entity) -> bool {
     let present = tables.row_with_key(uplevel.relation, uplevel.level, who.key);
-    present.is_some_and(|row| entity(row) != who)
+    present.map_or(false, |row| entity(row) != who)
 }
 
 /// Number 10: "UPLEVEL: FROM level does not dominate the key class".
@@ -96,10 +96,8 @@ fn from_below_key_class(description: &Description, uplevel: &Uplevel, who: Entit
 /// Number 11: "non-null reference and no row with that key at c". The reference is the one that is borrowed.
 fn reference_without_row(description: &Description, tables: &Tables, uplevel: &Uplevel, who: Entity) -> bool {
     let relation = description.relation(uplevel.relation);
-    let Some(&(column, lender)) = uplevel.from.iter().find(|&&(column, _)| column == relation.foreign) else {
-        return false;
-    };
-    let reference = lent(tables, uplevel, who, column, lender).value;
+    let borrowed = uplevel.from.iter().find(|&&(column, _)| column == relation.foreign);
+    let reference = borrowed.map_or(0, |&(column, lender)| lent(tables, uplevel, who, column, lender).value);
     reference != 0 && tables.row_with_key(relation.refers, uplevel.level, reference).is_none()
 }
 
@@ -123,8 +121,9 @@ fn new_cell(description: &Description, tables: &Tables, uplevel: &Uplevel, who: 
     if column == 1 {
         return Cell { value: who.key, class: who.class };
     }
-    let Some(&(_, lender)) = uplevel.from.iter().find(|&&(listed, _)| listed == column) else {
-        return own_null(description, uplevel, column);
+    let lender = match uplevel.from.iter().find(|&&(listed, _)| listed == column) {
+        Some(&(_, lender)) => lender,
+        None => return own_null(description, uplevel, column),
     };
     note_lender(tables, uplevel, who, column, lender);
     let borrowed = lent(tables, uplevel, who, column, lender);
@@ -184,8 +183,8 @@ fn with_row(description: &Description, tables: &Tables, uplevel: &Uplevel, who: 
 /// class kept."
 fn null_cells_above(description: &Description, new: &mut Tables, uplevel: &Uplevel, who: Entity, row: &Row) {
     for level in description.levels_above(uplevel.level) {
-        let Some(above) = new.row_of_mut(uplevel.relation, level, who) else { continue };
-        for (cell, replaced) in above.iter_mut().zip(row).skip(1) {
+        let above = new.row_of_mut(uplevel.relation, level, who).into_iter().flatten();
+        for (cell, replaced) in above.zip(row).skip(1) {
             if cell.class != uplevel.level {
                 continue;
             }

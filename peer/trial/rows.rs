@@ -79,7 +79,10 @@ pub fn take_classes(random: &mut Random, description: &Description, tables: &mut
 /// bottom's class stays empty.
 pub fn full(random: &mut Random, description: &Description) -> Tables {
     let mut tables = Tables::empty(description);
-    let Some(bottom) = description.levels().find(|&level| description.labels[level] == 0) else { return tables };
+    let bottom = match description.levels().find(|&level| description.labels[level] == 0) {
+        Some(bottom) => bottom,
+        None => return tables,
+    };
     let mut levels: Vec<usize> = description.levels().filter(|&level| level != bottom).collect();
     levels.insert(0, bottom);
     for relation in description.relation_numbers() {

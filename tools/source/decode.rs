@@ -11,34 +11,46 @@ pub fn decode(stream: &[u8]) -> Vec<Found> {
     let mut found = Vec::new();
     let mut rest = stream;
     while !rest.is_empty() {
-        let (first, length) = next(rest);
+        let (first, length) = next(rest).unwrap_or_else(|| (cut(rest), rest.len()));
         found.push(first);
         rest = &rest[length..];
     }
     found
 }
 
-// The first record of a stream that isn't empty, and how many bytes it takes. A record that is cut, or too long, takes all of them: where the
-// next one starts can't be told.
-fn next(rest: &[u8]) -> (Found, usize) {
-    let odd = |length: usize, why: String| (Found::Bytes { bytes: rest[..length].to_vec(), why }, length);
-    let mut header = Fields { rest };
-    let (Some(length), Some(kind)) = (header.half(), header.half()) else {
-        return odd(rest.len(), "the stream ends inside a record's first four bytes".to_string());
-    };
-    let length = length as usize;
+/// The first record of a stream and how many bytes it takes, or none where the stream ends before it does. One that is too long takes all bytes:
+/// where the next one starts can't be told.
+pub fn next(stream: &[u8]) -> Option<(Found, usize)> {
+    let mut header = Fields { rest: stream };
+    let (length, kind) = (header.half()? as usize, header.half()?);
+    let odd = |length: usize, why: String| Some((Found::Bytes { bytes: stream[..length].to_vec(), why }, length));
     if length > MOST {
-        return odd(rest.len(), format!("a body of {length} bytes, which is over {MOST}, and all that follows it"));
+        return odd(stream.len(), format!("a body of {length} bytes, which is over {MOST}, and all that follows it"));
     }
-    if header.rest.len() < length {
-        return odd(rest.len(), format!("the stream ends inside a record, with {} of its body's {length} bytes", header.rest.len()));
-    }
-    let body = &header.rest[..length];
+    let body = header.rest.get(..length)?;
     match record(kind, body) {
-        Some(record) => (Found::Record(record), 4 + length),
+        Some(record) => Some((Found::Record(record), 4 + length)),
         None if known(kind) => odd(4 + length, format!("a body of {length} bytes, which isn't what kind {kind} and its counts ask")),
         None => odd(4 + length, format!("no such kind: {kind}")),
     }
+}
+
+/// Whether the first record of a stream says that its body is over the most.
+pub fn too_long(stream: &[u8]) -> bool {
+    let mut header = Fields { rest: stream };
+    header.half().map_or(false, |length| length as usize > MOST)
+}
+
+/// A record that the stream ends inside of.
+pub fn cut(stream: &[u8]) -> Found {
+    let why = match stream.get(..4) {
+        None => "the stream ends inside a record's first four bytes".to_string(),
+        Some(header) => {
+            let length = u16::from_le_bytes([header[0], header[1]]);
+            format!("the stream ends inside a record, with {} of its body's {length} bytes", stream.len() - 4)
+        }
+    };
+    Found::Bytes { bytes: stream.to_vec(), why }
 }
 
 fn known(kind: u16) -> bool {
@@ -65,15 +77,15 @@ struct Fields<'a> {
 
 impl Fields<'_> {
     fn half(&mut self) -> Option<u16> {
-        let (first, rest) = self.rest.split_first_chunk::<2>()?;
-        self.rest = rest;
-        Some(u16::from_le_bytes(*first))
+        let first = self.rest.get(..2)?;
+        self.rest = &self.rest[2..];
+        Some(u16::from_le_bytes([first[0], first[1]]))
     }
 
     fn full(&mut self) -> Option<u32> {
-        let (first, rest) = self.rest.split_first_chunk::<4>()?;
-        self.rest = rest;
-        Some(u32::from_le_bytes(*first))
+        let first = self.rest.get(..4)?;
+        self.rest = &self.rest[4..];
+        Some(u32::from_le_bytes([first[0], first[1], first[2], first[3]]))
     }
 
     fn until_end<T>(&mut self, item: fn(&mut Self) -> Option<T>) -> Option<Vec<T>> {

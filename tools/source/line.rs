@@ -1,9 +1,7 @@
 // Reading one line from left to right. What could have stood at a place is kept until something does, so that a fault can say it.
 
+use crate::names::{Described, Kind, Names};
 use crate::pieces::{Piece, Sort};
-use std::collections::HashMap;
-
-pub type Names = HashMap<String, u32>;
 
 /// What is wrong with a text, and where; lines and columns are counted from 1.
 #[derive(Debug)]
@@ -12,6 +10,14 @@ pub struct Fault {
     pub column: usize,
     pub message: String,
 }
+
+impl Fault {
+    pub fn within(&self, file: &str) -> String {
+        format!("{file}:{}:{}: {}", self.line, self.column, self.message)
+    }
+}
+
+pub type Read<T> = Result<T, Fault>;
 
 pub struct Line<'a> {
     pub number: usize,
@@ -35,6 +41,8 @@ impl<'a> Line<'a> {
         self.wanted.clear();
     }
 
+    // ---- words and signs
+
     /// Goes past a word or a sign, if it stands here.
     pub fn take(&mut self, text: &'static str) -> bool {
         let piece = self.here();
@@ -47,11 +55,59 @@ impl<'a> Line<'a> {
         stands
     }
 
-    pub fn need(&mut self, text: &'static str) -> Result<(), Fault> {
+    pub fn need(&mut self, text: &'static str) -> Read<()> {
         if self.take(text) { Ok(()) } else { Err(self.unexpected()) }
     }
 
-    /// Whether a number, or a name for one, stands here.
+    // ---- names that a line gives
+
+    /// Whether a name and = stand here: something is being named.
+    pub fn at_naming(&self) -> bool {
+        self.here().sort == Sort::Name && self.pieces[self.at + 1].text == "="
+    }
+
+    /// Whether a name stands here.
+    pub fn at_name(&mut self, what: &'static str) -> bool {
+        let stands = self.here().sort == Sort::Name;
+        if !stands {
+            self.wanted.push(what);
+        }
+        stands
+    }
+
+    /// A name that nothing has yet, neither above nor among those that this line has given.
+    pub fn new_name(&mut self, what: &'static str, given: &[Option<String>]) -> Read<String> {
+        let piece = self.here();
+        if piece.sort != Sort::Name {
+            return Err(self.instead_of(what));
+        }
+        let name = piece.text.clone();
+        if let Some(kind) = self.names.shared_kind(&name) {
+            return Err(self.fault(format!("'{name}' is {} already; expected another name", kind.called())));
+        }
+        self.unlike(&name, given)?;
+        self.step();
+        Ok(name)
+    }
+
+    /// A column's name, which no other column of its relation has.
+    pub fn new_column(&mut self, given: &[Option<String>]) -> Read<String> {
+        let name = self.here().text.clone();
+        self.unlike(&name, given)?;
+        self.step();
+        Ok(name)
+    }
+
+    fn unlike(&self, name: &str, given: &[Option<String>]) -> Read<()> {
+        if given.iter().any(|other| other.as_deref() == Some(name)) {
+            return Err(self.fault(format!("this line gives the name '{name}' already; expected another name")));
+        }
+        Ok(())
+    }
+
+    // ---- numbers, and names for them
+
+    /// Whether a number or a name stands here.
     pub fn at_number(&mut self, what: &'static str) -> bool {
         let stands = matches!(self.here().sort, Sort::Number | Sort::Name);
         if !stands {
@@ -60,27 +116,52 @@ impl<'a> Line<'a> {
         stands
     }
 
-    /// A number of two bytes.
-    pub fn half(&mut self, what: &'static str) -> Result<u16, Fault> {
-        Ok(self.up_to(what, u16::MAX as u32)? as u16)
+    pub fn level(&mut self, what: &'static str) -> Read<u16> {
+        Ok(self.up_to(what, u16::MAX.into(), |names, name| names.number(name, Kind::Level))? as u16)
     }
 
-    /// A number of four bytes.
-    pub fn full(&mut self, what: &'static str) -> Result<u32, Fault> {
-        self.up_to(what, u32::MAX)
+    pub fn relation(&mut self, what: &'static str) -> Read<u16> {
+        Ok(self.up_to(what, u16::MAX.into(), |names, name| names.number(name, Kind::Relation))? as u16)
     }
 
-    fn up_to(&mut self, what: &'static str, most: u32) -> Result<u32, Fault> {
+    /// A column of a relation that stands above.
+    pub fn column(&mut self, relation: u16) -> Read<u16> {
+        let of = self.names.described(relation.into());
+        self.column_of(&of, &self.names.relation(relation.into()))
+    }
+
+    /// A column of a relation, which is called so in a fault.
+    pub fn column_of(&mut self, of: &Described, called: &str) -> Read<u16> {
+        Ok(self.up_to("a column", u16::MAX.into(), |names, name| names.column_number(name, of, called))? as u16)
+    }
+
+    pub fn value(&mut self, what: &'static str) -> Read<u32> {
+        self.up_to(what, u32::MAX, |names, name| names.number(name, Kind::Value))
+    }
+
+    /// The constant of a class condition: a level, in four bytes.
+    pub fn wide_level(&mut self, what: &'static str) -> Read<u32> {
+        self.up_to(what, u32::MAX, |names, name| names.number(name, Kind::Level))
+    }
+
+    /// A number of two bytes that has no name.
+    pub fn half(&mut self, what: &'static str) -> Read<u16> {
+        Ok(self.up_to(what, u16::MAX.into(), |names, name| Err(names.instead(name, "a number")))? as u16)
+    }
+
+    /// A number of four bytes that has no name.
+    pub fn full(&mut self, what: &'static str) -> Read<u32> {
+        self.up_to(what, u32::MAX, |names, name| Err(names.instead(name, "a number")))
+    }
+
+    fn up_to(&mut self, what: &'static str, most: u32, named: impl Fn(&Names, &str) -> Result<u32, String>) -> Read<u32> {
         if !self.at_number(what) {
             return Err(self.unexpected());
         }
         let piece = self.here();
         let number = match piece.sort {
             Sort::Number => piece.text.parse().ok(),
-            _ => match self.names.get(&piece.text) {
-                Some(number) => Some(*number),
-                None => return Err(self.fault(format!("no NAME line above gives a number to '{}'; expected {what}", piece.text))),
-            },
+            _ => Some(named(self.names, &piece.text).map_err(|wrong| self.fault(format!("{wrong}; expected {what}")))?),
         };
         match number {
             Some(number) if number <= most => {
@@ -94,7 +175,9 @@ impl<'a> Line<'a> {
         }
     }
 
-    pub fn end(&mut self) -> Result<(), Fault> {
+    // ---- the end, and faults
+
+    pub fn end(&mut self) -> Read<()> {
         if self.here().sort == Sort::End {
             return Ok(());
         }

@@ -1,15 +1,26 @@
 // Tries the tool on generated input: `trial SEED COUNT`. Records of each kind with fields of any width, streams of them that are cut, changed or
 // joined to random bytes, and texts with a letter changed go both ways. Its last line is `N passed, M failed`.
 
+// What only a run of mlrun needs isn't tried here.
+#![allow(dead_code)]
+
+mod ask;
 mod decode;
+mod describe;
 mod encode;
+mod follow;
 mod line;
+mod lines;
+mod lists;
+mod names;
 mod pieces;
 mod read;
 mod record;
 mod write;
 
 use record::{Cell, Condition, Record, Relation, What, MOST};
+
+const FORM: &str = include_str!("form.txt");
 
 struct Chance(u64);
 
@@ -123,7 +134,7 @@ impl Chance {
 
     // A text with a letter changed, put in or taken out.
     fn changed(&mut self, text: &str) -> String {
-        const LETTERS: &[char] = &['0', '9', ' ', '=', '!', '<', '/', '-', '.', ',', '#', 'A', 'z', '\n', '\t', 'ä', '\u{0}'];
+        const LETTERS: &[char] = &['0', '9', ' ', '=', '!', '<', '/', '-', '.', ',', '#', 'A', 'z', 'l', '\n', '\r', '\t', 'ä', '\u{0}', '\u{feff}'];
         let mut letters: Vec<char> = text.chars().collect();
         let at = self.below(letters.len() + 1);
         let letter = LETTERS[self.below(LETTERS.len())];
@@ -136,10 +147,31 @@ impl Chance {
     }
 }
 
+fn lines_of(text: &str) -> Vec<Vec<u8>> {
+    let (mut lines, mut all) = (lines::Lines::new(text.as_bytes()), Vec::new());
+    while let Ok(Some(line)) = lines.next() {
+        all.push(line);
+    }
+    all
+}
+
+// The records of a text, or the first thing that is wrong with it. Line by line as many are found as in the whole stream.
+fn pack(text: &str) -> Result<Vec<u8>, line::Fault> {
+    let (mut read, mut stream, mut found) = (read::Text::default(), Vec::new(), 0);
+    for (above, line) in lines_of(text).iter().enumerate() {
+        let said = read.line(above + 1, line)?;
+        stream.extend(said.bytes);
+        found += said.found.len();
+    }
+    found += read.end().into_iter().count();
+    assert_eq!(found, decode::decode(&stream).len(), "records of {text}");
+    Ok(stream)
+}
+
 // Bytes to text and back are the same bytes, and the text doesn't change on a second way through.
 fn both_ways(stream: &[u8]) -> bool {
     let text = write::unpack(stream);
-    read::pack(&text).is_ok_and(|bytes| bytes == stream && write::unpack(&bytes) == text)
+    pack(&text).map_or(false, |bytes| bytes == stream && write::unpack(&bytes) == text)
 }
 
 // A record is one line of its own, which doesn't fall back on BYTES.
@@ -150,20 +182,24 @@ fn one_line(record: &Record) -> bool {
 
 // A changed text goes both ways, or it is refused at a place that is there, with what was expected.
 fn refused_or_sound(text: &str) -> bool {
-    match read::pack(text) {
+    match pack(text) {
         Ok(bytes) => both_ways(&bytes),
         Err(fault) => {
-            let line = text.split('\n').nth(fault.line.wrapping_sub(1));
-            line.is_some_and(|line| (1..=line.chars().count() + 1).contains(&fault.column)) && fault.message.contains("; expected ")
+            let lines = lines_of(text);
+            let line = lines.get(fault.line.wrapping_sub(1)).map(|line| String::from_utf8_lossy(line));
+            line.map_or(false, |line| (1..=line.chars().count() + 1).contains(&fault.column)) && fault.message.contains("; expected ")
         }
     }
 }
 
 fn main() {
     let numbers: Vec<u64> = std::env::args().skip(1).filter_map(|word| word.parse().ok()).collect();
-    let [seed, count] = numbers[..] else {
-        println!("expected: trial SEED COUNT");
-        std::process::exit(1);
+    let (seed, count) = match numbers[..] {
+        [seed, count] => (seed, count),
+        _ => {
+            println!("expected: trial SEED COUNT");
+            std::process::exit(1);
+        }
     };
     let mut chance = Chance(seed.wrapping_mul(0x9E37_79B9_7F4A_7C15) | 1);
     let (mut passed, mut failed) = (0, 0);
@@ -182,6 +218,8 @@ fn main() {
         tell(both_ways(&damaged), "a damaged stream", case, &damaged);
         let text = chance.changed(&write::unpack(&stream));
         tell(refused_or_sound(&text), "a changed text", case, text.as_bytes());
+        let named = chance.changed(FORM);
+        tell(refused_or_sound(&named), "a changed text with names", case, named.as_bytes());
     }
     println!("{passed} passed, {failed} failed");
     std::process::exit((failed > 0 || passed == 0) as i32);
