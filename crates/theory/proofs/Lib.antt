@@ -24,6 +24,7 @@ pub mod Runs
 pub mod Steps
 pub mod Calls
 pub mod Theorems
+pub mod Least
 pub mod Instance
 pub mod Visible
 pub mod Silence
