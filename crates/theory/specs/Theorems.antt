@@ -15,8 +15,9 @@ use Rattle.model.specs.declared.Answer.the-variants as Answers
 use Rattle.model.specs.declared.Verdict.{Verdict}
 use Rattle.model.specs.declared.Verdict.the-variants as Verdicts
 use Rattle.model.specs.Numbers.{answerNumber, countOf}
-use Rattle.model.specs.Description.{over, totalOf, sound}
-use Rattle.model.specs.Tables.{Cell, Tables, cell, rowsOf, seen, at}
+use Rattle.model.specs.Description.{over, foreignOf, refersOf, totalOf, sound}
+use Rattle.model.specs.Tables.{Cell, Tables, cell, nocell, rowsOf, seen, at}
+use Rattle.model.specs.Conditions.{met}
 use Rattle.model.specs.Buffers.{Buffers, stateOf, buffersOf}
 use Rattle.model.specs.Legal.{LegalState}
 use Rattle.model.specs.Judge.{judge}
@@ -163,6 +164,64 @@ SilenceShows =
     → (at d (tables d (leaves d q b)) (relation q) (subject q) (entity .value) 1 ≡ entity)
     × (at d (tables d (leaves d q b)) (relation q) (subject q) (entity .value) k ≡ cell 0 a)
 
+-- ---- delete-as-said
+
+-- level l is above level c
+pub record IsAbove (d : Description) (l c : ℕ) : Type 0 where
+  pub dominates : over d l c ≡ true
+  pub other : l ≢ c
+
+-- what 01 says of a DELETE, on the tables before it: row i of relation r at level l, and its cell in column k
+module _ (d : Description) (b : Buffers) (q : Request) where
+  -- "among rows at c that meet the conditions"
+  pub record Deleted (r l i : ℕ) : Type 0 where
+    pub within : r ≡ relation q
+    pub level : l ≡ subject q
+    pub meets : met d (q .conditions) (tables d b r l i) ≡ true
+
+  -- a row above c of the entity of one of those
+  pub record OfDeleted (r l i : ℕ) : Type 0 where
+    pub above : IsAbove d l (subject q)
+    pub row : ℕ
+    pub deleted : Deleted r (subject q) row
+    pub entity : tables d b r l i 1 ≡ tables d b r (subject q) row 1
+
+  -- "If its key class is c, every row of that entity above c is emptied"
+  pub record Emptied (r l i : ℕ) : Type 0 where
+    pub of : OfDeleted r l i
+    pub key : tables d b r l i 1 .class ≡ subject q
+
+  -- "at each level above, in every relation referring to it, a reference whose named row was emptied"
+  pub record NamesEmptied (r l i k : ℕ) : Type 0 where
+    pub reference : k ≡ foreignOf d r
+    pub row : ℕ
+    pub names : tables d b (refersOf d r) l row 1 .value ≡ tables d b r l i k .value
+    pub emptied : Emptied (refersOf d r) l row
+
+  -- "If its key class is below c, cells of class c in that entity's rows above c"
+  pub record Lent (r l i k : ℕ) : Type 0 where
+    pub of : OfDeleted r l i
+    pub key : IsAbove d (subject q) (tables d b r l i 1 .class)
+    pub class : tables d b r l i k .class ≡ subject q
+
+pub record DeleteSaid (d : Description) (b : Buffers) (q : Request) : Type 0 where
+  -- "each is emptied."
+  pub deleted : (r l i k : ℕ) → Deleted d b q r l i → tables d (leaves d q b) r l i k ≡ nocell
+  -- "every row of that entity above c is emptied;"
+  pub emptied : (r l i k : ℕ) → Emptied d b q r l i → tables d (leaves d q b) r l i k ≡ nocell
+  -- "a reference whose named row was emptied becomes null, class kept."
+  pub references : (r l i k : ℕ) → NamesEmptied d b q r l i k → tables d (leaves d q b) r l i k ≡ cell 0 (tables d b r l i k .class)
+  -- "cells of class c in that entity's rows above c become null, class kept."
+  pub lent : (r l i k : ℕ) → Lent d b q r l i k → tables d (leaves d q b) r l i k ≡ cell 0 (tables d b r l i k .class)
+  -- nothing is said of any other cell, and it stays
+  pub stays : (r l i k : ℕ) → (Deleted d b q r l i → ⊥) → (Emptied d b q r l i → ⊥) → (NamesEmptied d b q r l i k → ⊥) → (Lent d b q r l i k → ⊥)
+      → tables d (leaves d q b) r l i k ≡ tables d b r l i k
+
+abbrev pub DeleteAsSaid : Type 0
+DeleteAsSaid =
+    (d : Description) (b : Buffers) (q : Request) (count : ℕ) → q .statement .what ≡ Whats.Delete → hears d q b .answer ≡ Answers.Done count
+    → DeleteSaid d b q
+
 -- ---- trust-is-named
 
 -- that entity's row at level l had class a in column k before, with a value or waiting for one
@@ -171,11 +230,12 @@ pub record Held (T : Tables) (r l : ℕ) (entity : Cell) (k a : ℕ) : Type 0 wh
   pub one : T r l row 1 ≡ entity
   pub class : T r l row k .class ≡ a
 
--- the request is an UPLEVEL at l, in relation r, of the entity, which lists column k FROM a
+-- the request is an UPLEVEL at l, in relation r, of the entity, which lists column k FROM a; and it was done
 pub record Named (d : Description) (b : Buffers) (q : Request) (r l : ℕ) (entity : Cell) (k a : ℕ) : Type 0 where
   pub level : subject q ≡ l
   pub within : relation q ≡ r
   pub lists : Lists d b q entity k a
+  pub done : hears d q b .answer ≡ Answers.Done 1
 
 abbrev pub TrustIsNamed : Type 0
 TrustIsNamed =
