@@ -2,22 +2,21 @@
 -- difference: c's own reference never names a row that is emptied, or the statement would be refused.
 -- Assumes nothing.
 use Prim.Native.Nat.{ℕ, _<_}
-use mathlib.Core.Bool.{true, _&&_}
+use mathlib.Core.Bool.{true}
 use mathlib.Core.Logic.{_≢_, _⊎_, inl, inr}
-use mathlib.Core.Option.{Option, none, some}
+use mathlib.Core.Option.{none, some}
 use mathlib.Core.Path.{_≡_, refl, sym, ap, _∙_, subst}
 use native.Mathlib.Omega.{arith}
-use lib.Dec.{eqb}
-use Rattle.bounded.specs.Tests.{if_then_else_, Reflects}
+use Rattle.bounded.specs.Tests.{Reflects}
 use Rattle.bounded.proofs.Reflection.{if-cases, is-true, is-false, of-true, decide, bool-r, and-r, eqb-r}
 use Rattle.model.specs.Buffers.{Buffers, stateOf}
 use Rattle.model.specs.Conditions.{met}
 use Rattle.model.specs.Delete.{deleted}
-use Rattle.model.specs.Description.{over, rowCount, foreignOf, refersOf}
-use Rattle.model.specs.Effect.{Change, keep, only, Effect, changed, reach, carry, applied}
+use Rattle.model.specs.Description.{rowCount, foreignOf, refersOf}
+use Rattle.model.specs.Effect.{keep, only, Effect, changed, reach, carry, applied}
 use Rattle.model.specs.Legal.{LegalState}
-use Rattle.model.specs.Run.{Request, subject, relation, further, firstFault, tests, effectAs, left, after}
-use Rattle.model.specs.Tables.{Cell, cell, nocell, Row, norow, State, Tables, rowsOf, seen, seek, at, lends}
+use Rattle.model.specs.Run.{Request, subject, relation, further, tests, effectAs, left, after}
+use Rattle.model.specs.Tables.{Cell, cell, nocell, Row, State, Tables, rowsOf, seen, at, lends}
 use Rattle.model.specs.declared.Description.{Description}
 use Rattle.model.specs.declared.What.the-variants as Whats
 use Rattle.model.specs.declared.Fault.the-variants as Faults
@@ -27,8 +26,7 @@ use Rattle.theory.specs.Theorems.{Yes, tables, leaves, IsAbove, Deleted,
 use Rattle.theory.proofs.Described.{sound-laws, range-r}
 use Rattle.theory.proofs.Fine.{cell-path, same-r, Held, Fine, key-below, key-is, lends-yes, lends-no, value-of, class-of, nocell-value, nocell-class, no-level}
 use Rattle.theory.proofs.Seek.{Sought, there, nowhere, sought, at-seek}
-use Rattle.theory.proofs.Reach.{GoneAt, root, Gone, Hit, Cut, Reached, emptied, hit, cut, kept, reached, gone-empties, carry-own, carry-above, carry-aside, Side, at-c, over-c, off-c, side}
-use Rattle.theory.proofs.Lift.{Tidy, Fits}
+use Rattle.theory.proofs.Reach.{GoneAt, root, Hit, Cut, Reached, emptied, hit, cut, kept, reached, gone-empties, carry-own, carry-above, carry-aside, Side, at-c, over-c, off-c, side}
 use Rattle.theory.proofs.Update.{met-used}
 use Rattle.theory.proofs.Legality.{find, legal-tidy}
 use Rattle.theory.proofs.Seen.{seen-own}

@@ -10,7 +10,6 @@ use Rattle.bounded.proofs.Cases.{cases}
 use Rattle.bounded.proofs.Reflection.{decide, ltb-r}
 use Rattle.model.specs.declared.Description.{Description}
 use Rattle.model.specs.declared.Fault.{Fault}
-use Rattle.model.specs.declared.Answer.the-variants as Answers
 use Rattle.model.specs.Numbers.{countOf}
 use Rattle.model.specs.Description.{over}
 use Rattle.model.specs.Tables.{Row, nocell, State}
