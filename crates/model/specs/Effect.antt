@@ -50,8 +50,8 @@ unfoldable pub goneAt : Description → Tables → ℕ → Above → ℕ → ℕ
 goneAt d W c E l v r = E .gone r v && eqb (W r l v 1 .class) c
 
 -- A row R of relation r at a level l above c, where W finds rows by key: it is emptied; or its cells of class c change, if its entity is one
--- that c has; or "a reference whose named row was emptied becomes null, class kept". (A reference of class c in such a row is c's own, and
--- where c's own names a row to be emptied the statement is refused.)
+-- that c has; or "a reference whose named row was emptied becomes null, class kept". That the change is asked for before the reference comes to
+-- what the sentences on DELETE say is a theorem, `delete-as-said` (crates/theory/specs/Theorems.antt).
 unfoldable pub reach : Description → Tables → ℕ → Above → ℕ → ℕ → Row → Row
 reach d W c E r l R k =
     if goneAt d W c E l (R 1 .value) r then nocell

@@ -81,13 +81,16 @@ firstFault (t ∷ ts) = if t .0 then firstFault ts else some (t .1)
 unfoldable pub tests : Description → Request → State → List (Bool × Fault)
 tests d q S = (formed d q, Faults.Malformed) ∷ further d q (q .statement .what) (seen d (subject q) S)
 
-unfoldable pub refusal : Description → Buffers → Request → Option Fault
-refusal d b q =
-    firstFault
-    ((sound d, Faults.Description)
+-- all tests of a call, each with the fault that is given where it fails
+abbrev pub allTests : Description → Buffers → Request → List (Bool × Fault)
+allTests d b q =
+    (sound d, Faults.Description)
     ∷ (fitting d b, Faults.Length)
     ∷ (legal d (stateOf d b), Faults.Illegal)
-    ∷ tests d q (stateOf d b))
+    ∷ tests d q (stateOf d b)
+
+unfoldable pub refusal : Description → Buffers → Request → Option Fault
+refusal d b q = firstFault (allTests d b q)
 
 -- ---- what is left
 

@@ -148,9 +148,11 @@ module _ (D : Description) (L : Laws D) (G : State) (t : Tidy D (rowsOf G)) wher
           go (inl z) = absurd (z (any-met D L G t c r level q v m))
           go (inr z) = listed-names D L G t c r level s x z h n
 
-  delete-ok : (c r : ℕ) (q : List ℕ) → c < D .levels → firstFault (deleteTests D c r q (seen D c G)) ≡ none → Fits D T₁ c (deleted D c r q (seen D c G c .rows))
+  -- no row at c refers to a row that meets the conditions
+  pub delete-unnamed : (c r : ℕ) (q : List ℕ) → c < D .levels → firstFault (deleteTests D c r q (seen D c G)) ≡ none
+      → (s v k : ℕ) → refersOf D s ≡ r → k ≡ foreignOf D s → at D T₁ s c v k .value ≢ 0 → met D q (at D T₁ r c (at D T₁ s c v k .value)) ≡ true → ⊥
   unfolding deleteTests faultNumber referred
-  delete-ok c r q level e = rw (seen-own D G c (L .reflexive c level)) (delete-fits D L T₁ c r q t level unnamed)
+  delete-unnamed c r q level e s v k a f n m = by (sought (rowCount D s) (T₁ s c) v) (at-seek D T₁ s c v)
     where
       S : Tables
       S = rowsOf (seen D c G)
@@ -163,20 +165,20 @@ module _ (D : Description) (L : Laws D) (G : State) (t : Tidy D (rowsOf G)) wher
           any-none (rowCount D s) (refers-to s)
           (any-none (suc (D .relations)) (λ s. anyBelow (rowCount D s) (refers-to s)) (not-true (referred D c r q S) (pass (deleteTests D c r q (seen D c G)) e 12)) s h) i h′
 
-      unnamed : (s v k : ℕ) → refersOf D s ≡ r → k ≡ foreignOf D s → at D T₁ s c v k .value ≢ 0 → met D q (at D T₁ r c (at D T₁ s c v k .value)) ≡ true → ⊥
-      unnamed s v k a f n m = by (sought (rowCount D s) (T₁ s c) v) (at-seek D T₁ s c v)
+      by : {R : Row} → Sought (rowCount D s) (T₁ s c) v R → at D T₁ s c v ≡ R → ⊥
+      by (nowhere _ x) y = n (rw (y ∙ x))
+      by (there i b _ x) y = true≢false (sym yes ∙ none-refers s i (suc-le-suc (of-true (relation-r D s) (row-relation D s i b) .1)) b)
         where
-          by : {R : Row} → Sought (rowCount D s) (T₁ s c) v R → at D T₁ s c v ≡ R → ⊥
-          by (nowhere _ x) y = n (rw (y ∙ x))
-          by (there i b _ x) y = true≢false (sym yes ∙ none-refers s i (suc-le-suc (of-true (relation-r D s) (row-relation D s i b) .1)) b)
-            where
-              w : S s c i (foreignOf D s) .value ≡ at D T₁ s c v k .value
-              w = cc (seen-row D G c s c (L .reflexive c level), y, x, f)
+          w : S s c i (foreignOf D s) .value ≡ at D T₁ s c v k .value
+          w = cc (seen-row D G c s c (L .reflexive c level), y, x, f)
 
-              yes : refers-to s i ≡ true
-              yes =
-                  is-true (and-r (eqb-r (refersOf D s) r) (and-r (not-r (eqb-r (S s c i (foreignOf D s) .value) 0)) (bool-r (met D q (at D S r c (S s c i (foreignOf D s) .value))))))
-                  (a, ((λ z. n (sym w ∙ z)), cc (m, w, seen-at D G c r c (at D T₁ s c v k .value) (L .reflexive c level))))
+          yes : refers-to s i ≡ true
+          yes =
+              is-true (and-r (eqb-r (refersOf D s) r) (and-r (not-r (eqb-r (S s c i (foreignOf D s) .value) 0)) (bool-r (met D q (at D S r c (S s c i (foreignOf D s) .value))))))
+              (a, ((λ z. n (sym w ∙ z)), cc (m, w, seen-at D G c r c (at D T₁ s c v k .value) (L .reflexive c level))))
+
+  delete-ok : (c r : ℕ) (q : List ℕ) → c < D .levels → firstFault (deleteTests D c r q (seen D c G)) ≡ none → Fits D T₁ c (deleted D c r q (seen D c G c .rows))
+  delete-ok c r q level e = rw (seen-own D G c (L .reflexive c level)) (delete-fits D L T₁ c r q t level (delete-unnamed c r q level e))
 
   insert-ok : (c r : ℕ) (s : List ℕ) → c < D .levels → insertFormed D r s ≡ true → firstFault (insertTests D c r s (seen D c G)) ≡ none
       → Fits D T₁ c (inserted D c r s (seen D c G c .rows))

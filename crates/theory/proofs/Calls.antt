@@ -25,7 +25,9 @@ use Rattle.theory.specs.Theorems.{Yes, leaves, hears, Lengths, Says, is-
 use Rattle.theory.proofs.Described.{sound-laws}
 use Rattle.theory.proofs.Judged.{judged, legal-framed}
 use Rattle.theory.proofs.State.{fault, acts, step, reply}
+use Rattle.theory.proofs.Accepted.{passed}
 use Rattle.theory.proofs.Steps.{step-legal}
+use Rattle.model.specs.declared.Answer.the-variants as Answers
 
 -- ---- the judge
 
@@ -89,12 +91,24 @@ pub run-done : (d : Description) (b : Buffers) (q : Request) → refusal d b q �
 unfolding run
 run-done d b q e = rw (e, run)
 
+-- a request that is done is made on legal tables
+pub done-says : (d : Description) (b : Buffers) (q : Request) {count : ℕ} → hears d q b .answer ≡ Answers.Done count → Yes d b × (fault d q (stateOf d b) ≡ none)
+unfolding refusal judge fault refused
+done-says d b q {count} h = go (refusal d b q) refl
+  where
+    go : (x : Option Fault) → refusal d b q ≡ x → Yes d b × (fault d q (stateOf d b) ≡ none)
+    go (some x) e = absurd (let z : _≡_ {A = ℕ} 0 1 = cc (h, ap (λ (o : Outcome). o .reply .answer) (run-refused d b q e)) in omega arith)
+    go none e =
+        let s = passed _ _ e in
+        let f = passed _ _ (s .1) in
+        (rw (s .0, f .0, passed _ _ (f .1) .0), f .1)
+
 -- and on tables
 reply-refused : (d : Description) (q : Request) (S : State) {x : Fault} → fault d q S ≡ some x → reply d q S ≡ refused q x
 unfolding reply
 reply-refused d q S e = rw (e, reply)
 
-reply-done : (d : Description) (q : Request) (S : State) → fault d q S ≡ none → reply d q S ≡ done d q (seen d (subject q) S)
+pub reply-done : (d : Description) (q : Request) (S : State) → fault d q S ≡ none → reply d q S ≡ done d q (seen d (subject q) S)
 unfolding reply
 reply-done d q S e = rw (e, reply)
 

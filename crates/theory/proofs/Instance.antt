@@ -1,26 +1,25 @@
 -- Nothing is vacuous: the worked description and tables meet what the theorems assume, and two statements from levels apart both change a
--- level above them.
+-- level above them. The other files named Instance have witnesses of their own for the theorems that they name.
 -- Assumes nothing.
 use mathlib.Core.Path.{_≡_, refl, ap}
 use native.Mathlib.Omega.{arith}
 use mathlib.Core.Bool.{true, false≢true}
 use Prim.Native.Nat.{ℕ}
-use mathlib.Core.List.{List, [], _∷_}
+use mathlib.Core.List.{[], _∷_}
 use lib.ListN.{replicate}
-use Rattle.model.specs.declared.Description.{Description}
 use Rattle.model.specs.declared.Answer.the-variants as Answers
+use Rattle.model.specs.declared.Fault.the-variants as Faults
 use Rattle.model.specs.Description.{sound}
 use Rattle.model.specs.Tables.{Cell, cell, at}
 use Rattle.model.specs.Buffers.{Buffers}
 use Rattle.model.specs.Run.{Request}
 use Rattle.model.proofs.Computed.{computed}
-use Rattle.model.proofs.Build.{insertAt, updateAt, uplevelAt, holding}
+use Rattle.model.proofs.Build.{updateAt, uplevelAt, selectAt, holding}
 use Rattle.model.proofs.Worked.{five, one, no₁, no₂, levels, x₀, x₁, x₂, X, row₁}
 use Rattle.theory.specs.Laws.{Laws}
-use Rattle.theory.specs.Queues.{Merge, from-left, from-right, finished, Each, more, no-more, final, SameRun}
-use Rattle.theory.specs.Theorems.{Yes, tables, leaves, hears, Apart, Commute, Lists, Silent}
+use Rattle.theory.specs.Theorems.{Yes, tables, leaves, hears, Kept, Apart, Commute, Lists, Silent}
 use Rattle.theory.proofs.Described.{sound-laws}
-use Rattle.theory.proofs.Theorems.{apart-commute, queues-merge}
+use Rattle.theory.proofs.Theorems.{stays-legal, refusal-keeps, apart-commute}
 use Rattle.theory.proofs.Silence.{silence-shows}
 
 -- ---- the worked description and tables X, with P1's row at level 3
@@ -32,14 +31,14 @@ five-sound = refl
 pub five-laws : Laws five
 five-laws = sound-laws five five-sound
 
-abbrev start : Buffers
+abbrev pub start : Buffers
 start = holding (X row₁ no₂ no₂)
 
 pub start-legal : Yes five start
 unfolding computed
 start-legal = refl
 
--- ---- two statements from levels apart
+-- ---- apart-commute: two statements from levels apart
 
 -- at level 1 column 2 = 22, and at level 2 column 3 = 33
 abbrev one-side : Request
@@ -64,54 +63,24 @@ other-changes-above = refl
 pub sides-commute : Commute five start one-side other-side
 sides-commute = apart-commute five start one-side other-side start-legal sides-apart
 
--- ---- two queues, each with statements of two levels
+-- ---- stays-legal: a statement that is done, and changes what is stored
 
--- labels 0, 1, 2, 5, 10, 15: levels 1 and 3 on one side, 2 and 4 on the other; a relation of a key alone, two rows a level
-abbrev forked : Description
-forked =
-    record {
-      levels = 6;
-      labels = 0 ∷ 1 ∷ 2 ∷ 5 ∷ 10 ∷ 15 ∷ replicate 10 0;
-      relations = 1;
-      columns = 0 ∷ 1 ∷ replicate 7 0;
-      rows = 0 ∷ 2 ∷ replicate 7 0;
-      foreign = replicate 9 0;
-      refers = replicate 9 0;
-      low = replicate 81 0;
-      high = replicate 81 5;
-    }
+pub start-stays : Yes five (leaves five one-side start)
+start-stays = stays-legal five start one-side start-legal
 
-abbrev nothing : Buffers
-nothing = record { values = replicate 12 0; classes = replicate 12 255 }
+-- ---- refusal-keeps: a SELECT whose output buffers are too short, by one number
 
-pub nothing-legal : Yes forked nothing
+abbrev short : Request
+short = selectAt 1 1 (0 ∷ 1 ∷ []) [] (replicate 6 9) (replicate 7 8)
+
+pub short-refused : hears five short start .answer ≡ Answers.Refused Faults.Short
 unfolding computed
-nothing-legal = refl
+short-refused = refl
 
-abbrev insertions : ℕ → ℕ → List Request
-insertions a b = insertAt a 1 (1 ∷ 7 ∷ []) ∷ insertAt b 1 (1 ∷ 8 ∷ []) ∷ []
+pub short-keeps : Kept five start short
+short-keeps = refusal-keeps five start short Faults.Short short-refused
 
-pub queues-apart : Each (λ q. Each (λ p. Apart forked q p) (insertions 2 4)) (insertions 1 3)
-unfolding computed
-queues-apart =
-    more (more (record { not-over = false≢true; not-under = false≢true }) (more (record { not-over = false≢true; not-under = false≢true }) no-more))
-    (more (more (record { not-over = false≢true; not-under = false≢true }) (more (record { not-over = false≢true; not-under = false≢true }) no-more)) no-more)
-
--- the one queue after the other, and the two in turn
-abbrev both-in-order : Merge (insertions 1 3) (insertions 2 4)
-both-in-order = from-left (from-left (from-right (from-right finished)))
-
-abbrev both-in-turn : Merge (insertions 1 3) (insertions 2 4)
-both-in-turn = from-right (from-left (from-right (from-left finished)))
-
-pub queues-done : final (leaves forked) (hears forked) both-in-order nothing ≡ record { values = 0 ∷ 0 ∷ 7 ∷ 0 ∷ 7 ∷ 0 ∷ 8 ∷ 0 ∷ 8 ∷ 0 ∷ 0 ∷ 0 ∷ []; classes = 255 ∷ 255 ∷ 1 ∷ 255 ∷ 2 ∷ 255 ∷ 3 ∷ 255 ∷ 4 ∷ 255 ∷ 255 ∷ 255 ∷ [] }
-unfolding computed final
-queues-done = refl
-
-pub queues-same : SameRun (leaves forked) (hears forked) both-in-order both-in-turn nothing
-queues-same = queues-merge forked nothing (insertions 1 3) (insertions 2 4) nothing-legal queues-apart both-in-order both-in-turn
-
--- ---- P6: level 2 is silent on column 2
+-- ---- silence-shows: P6, level 2 is silent on column 2
 
 abbrev borrowing : Request
 borrowing = uplevelAt 3 1 7 255 (2 ∷ 2 ∷ [])

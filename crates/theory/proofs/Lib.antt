@@ -24,7 +24,15 @@ pub mod Runs
 pub mod Steps
 pub mod Calls
 pub mod Theorems
-pub mod Instance
+pub mod Least
 pub mod Visible
 pub mod Silence
+pub mod Said
 pub mod Trust
+pub mod Instance
+pub mod InstanceJudged
+pub mod InstanceLeast
+pub mod InstanceDelete
+pub mod InstanceTrust
+pub mod InstanceSeen
+pub mod InstanceQueues

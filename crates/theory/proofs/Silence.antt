@@ -2,24 +2,22 @@
 -- Assumes nothing.
 use Prim.Native.Nat.{ℕ}
 use mathlib.Core.Logic.{_≢_, _⊎_, inl, inr}
-use mathlib.Core.Option.{Option, none, some}
+use mathlib.Core.Option.{none, some}
 use mathlib.Core.Path.{_≡_, refl, sym, ap, _∙_, subst}
 use native.Mathlib.Omega.{arith}
 use Rattle.bounded.proofs.Cases.{and-left}
 use Rattle.bounded.proofs.Reflection.{if-cases, is-true, decide, and-r, eqb-r, ltb-r}
-use Rattle.model.specs.Buffers.{Buffers, stateOf}
+use Rattle.model.specs.Buffers.{stateOf}
 use Rattle.model.specs.Description.{rowCount}
 use Rattle.model.specs.Effect.{applied}
-use Rattle.model.specs.Judge.{judge}
 use Rattle.model.specs.Legal.{LegalState}
 use Rattle.model.specs.Listed.{listed}
-use Rattle.model.specs.Run.{Request, subject, relation, formedAs, refusal, effectAs, left, after, Outcome, refused}
+use Rattle.model.specs.Run.{Request, subject, relation, formedAs, effectAs, left, after}
 use Rattle.model.specs.Tables.{Cell, cell, Row, norow, State, Tables, rowsOf, seen, place, seek, at, lends}
 use Rattle.model.specs.Uplevel.{entityOf, raised, placed, uplevelled}
 use Rattle.model.specs.declared.Description.{Description}
-use Rattle.model.specs.declared.Fault.{Fault}
 use Rattle.theory.specs.Laws.{Laws}
-use Rattle.theory.specs.Theorems.{Yes, hears, SilenceShows}
+use Rattle.theory.specs.Theorems.{Yes, SilenceShows}
 use Rattle.theory.proofs.Described.{sound-laws}
 use Rattle.theory.proofs.Fine.{cell-path, same-r, value-of}
 use Rattle.theory.proofs.Seek.{at-seek}
@@ -27,12 +25,11 @@ use Rattle.theory.proofs.Reach.{carry-own}
 use Rattle.theory.proofs.Uplevel.{placeOf, Raised, is-key, is-lent, is-null, raises}
 use Rattle.theory.proofs.Legality.{find, legal-tidy}
 use Rattle.theory.proofs.Seen.{seen-as}
-use Rattle.theory.proofs.Accepted.{passed, uplevel-key}
+use Rattle.theory.proofs.Accepted.{uplevel-key}
 use Rattle.theory.proofs.State.{fault, step}
 use Rattle.theory.proofs.Steps.{all-passed, step-legal}
-use Rattle.theory.proofs.Calls.{Judged, yes-says, run-refused, step-done, leaves-state}
+use Rattle.theory.proofs.Calls.{Judged, yes-says, done-says, step-done, leaves-state}
 use Rattle.model.specs.declared.What.the-variants as Whats
-use Rattle.model.specs.declared.Answer.the-variants as Answers
 
 seek-none : (n v : ℕ) → seek n (λ i. norow) v ≡ norow
 unfolding seek
@@ -103,18 +100,6 @@ module _ (d : Description) (L : Laws d) (q : Request) (S : State) (g : LegalStat
   silence = (ap (λ (R : Row). R 1) found, ap (λ (R : Row). R k) found ∙ new-null)
 
 -- ---- on buffers
-
--- a request that is done is made on legal tables
-done-says : (d : Description) (b : Buffers) (q : Request) {count : ℕ} → hears d q b .answer ≡ Answers.Done count → Yes d b × (fault d q (stateOf d b) ≡ none)
-unfolding refusal judge fault refused
-done-says d b q {count} h = go (refusal d b q) refl
-  where
-    go : (x : Option Fault) → refusal d b q ≡ x → Yes d b × (fault d q (stateOf d b) ≡ none)
-    go (some x) e = absurd (let z : _≡_ {A = ℕ} 0 1 = cc (h, ap (λ (o : Outcome). o .reply .answer) (run-refused d b q e)) in omega arith)
-    go none e =
-        let s = passed _ _ e in
-        let f = passed _ _ (s .1) in
-        (rw (s .0, f .0, passed _ _ (f .1) .0), f .1)
 
 pub silence-shows : SilenceShows
 silence-shows d b q entity k a count h u silent =

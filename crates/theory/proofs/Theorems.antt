@@ -10,7 +10,6 @@ use Rattle.bounded.proofs.Cases.{cases}
 use Rattle.bounded.proofs.Reflection.{decide, ltb-r}
 use Rattle.model.specs.declared.Description.{Description}
 use Rattle.model.specs.declared.Fault.{Fault}
-use Rattle.model.specs.declared.Answer.the-variants as Answers
 use Rattle.model.specs.Numbers.{countOf}
 use Rattle.model.specs.Description.{over}
 use Rattle.model.specs.Tables.{Row, nocell, State}
@@ -19,7 +18,7 @@ use Rattle.model.specs.Buffers.{Buffers, stateOf, buffersOf, inside}
 use Rattle.model.specs.Run.{Request, subject, Outcome, refusal, refused, done}
 use Rattle.model.proofs.Border.{inside-says, state-framed}
 use Rattle.theory.specs.Laws.{Laws}
-use Rattle.theory.specs.Theorems.{Yes, leaves, hears, Apart, StaysLegal, Kept, RefusalKeeps, ApartCommute, QueuesMerge, OneOutcome, OnlySeen}
+use Rattle.theory.specs.Theorems.{Yes, leaves, hears, Apart, StaysLegal, Kept, RefusalKeeps, ApartCommute, QueuesMerge, OnlySeen}
 use Rattle.theory.proofs.Described.{sound-laws}
 use Rattle.theory.proofs.State.{step, reply}
 use Rattle.theory.proofs.Steps.{step-laws}
@@ -80,9 +79,6 @@ pub queues-merge : QueuesMerge
 queues-merge d b qs ps y apart m m′ =
     Queues.queues-merge (leaves d) (hears d) (Yes d) (Apart d) (λ q b g. stays-legal d b q g) (λ q p b a g. commutes d b g q p a)
     (λ q p b a g. quiet d b g q p (a .not-over)) (λ q p b a g. quiet d b g p q (a .not-under)) m m′ b apart y
-
-pub one-outcome : OneOutcome
-one-outcome d b q o o′ e e′ = sym e ∙ e′
 
 -- ---- what is seen
 

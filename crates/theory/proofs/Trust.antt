@@ -16,7 +16,7 @@ use Rattle.model.specs.Effect.{Effect, reach, applied, lowestEmpty}
 use Rattle.model.specs.Insert.{newRow, inserted}
 use Rattle.model.specs.Legal.{LegalState}
 use Rattle.model.specs.Listed.{listed}
-use Rattle.model.specs.Run.{Request, subject, relation, formedAs, effectAs, left, after}
+use Rattle.model.specs.Run.{Request, subject, relation, formedAs, effectAs, left, after, Reply, countAs, done}
 use Rattle.model.specs.Tables.{Cell, nocell, Row, State, Tables, rowsOf, seen, at}
 use Rattle.model.specs.Update.{setIn, updated}
 use Rattle.model.specs.Uplevel.{entityOf, raised, placed, uplevelled}
@@ -24,7 +24,7 @@ use Rattle.model.specs.declared.Description.{Description}
 use Rattle.model.specs.declared.Fault.{Fault}
 use Rattle.model.specs.declared.What.{What}
 use Rattle.theory.specs.Laws.{Laws}
-use Rattle.theory.specs.Theorems.{Held, Named, TrustIsNamed}
+use Rattle.theory.specs.Theorems.{tables, leaves, hears, Held, Named, TrustIsNamed}
 use Rattle.theory.proofs.Described.{sound-laws}
 use Rattle.theory.proofs.Fine.{value-of, class-of, nocell-value, nocell-class, no-level, lends-class}
 use Rattle.theory.proofs.Reach.{Gone, Reached, emptied, hit, cut, kept, reached, settle-class, Changed, settled, lost, changes, null-value, carry-own, carry-above, carry-aside, Side, at-c, over-c, off-c, side}
@@ -36,8 +36,9 @@ use Rattle.theory.proofs.Seen.{seen-own}
 use Rattle.theory.proofs.Accepted.{update-key}
 use Rattle.theory.proofs.State.{fault, step}
 use Rattle.theory.proofs.Steps.{Passed, all-passed}
-use Rattle.theory.proofs.Calls.{Judged, yes-says, step-refused, step-done, leaves-state}
+use Rattle.theory.proofs.Calls.{Judged, yes-says, reply-done, step-refused, step-done, hears-is, leaves-state}
 use Rattle.model.specs.declared.What.the-variants as Whats
+use Rattle.model.specs.declared.Answer.the-variants as Answers
 
 module _ (d : Description) (q : Request) (S : State) where
   abbrev c : ℕ
@@ -176,11 +177,26 @@ module _ (d : Description) (q : Request) (S : State) where
         go none e = rw (step-done d q S e) (went (all-passed d L q S (legal-tidy d L T g) e) (effectAs d q (q .statement .what) (seen d c S)) refl)
 
 pub trust-is-named : TrustIsNamed
-trust-is-named d b q y r l i k n v m = go (subst (λ (S : State). From d q (stateOf d b) r l k (rowsOf S r l i)) (sym (leaves-state d b q y)) (trust d q (stateOf d b) (sound-laws d (j .sound)) (j .legal) r l i k n) v m)
+unfolding done countAs
+trust-is-named d b q y r l i k n v m = by (fault d q (stateOf d b)) refl
   where
     j : Judged d b
     j = yes-says d b y
 
-    go : {e : Cell} {a : ℕ} → Whence d q (stateOf d b) r l e k a → Held (rowsOf (stateOf d b)) r l e k a ⊎ Named d b q r l e k a
-    go (held h) = inl h
-    go (named p w class what is column) = inr (record { level = p; within = w; lists = record { class = class; what = what; is = is; column = column } })
+    Said : Cell → ℕ → Type 0
+    Said e a = Held (rowsOf (stateOf d b)) r l e k a ⊎ Named d b q r l e k a
+
+    by : (o : Option Fault) → fault d q (stateOf d b) ≡ o → Said (tables d (leaves d q b) r l i 1) (tables d (leaves d q b) r l i k .class)
+    by (some x) e = inl (record { row = i; one = ap (λ (S : State). rowsOf S r l i 1) same; class = ap (λ (S : State). rowsOf S r l i k .class) same })
+      where
+        same : stateOf d b ≡ stateOf d (leaves d q b)
+        same = sym (leaves-state d b q y ∙ step-refused d q (stateOf d b) e)
+    by none e = go (subst (λ (S : State). From d q (stateOf d b) r l k (rowsOf S r l i)) (sym (leaves-state d b q y)) (trust d q (stateOf d b) (sound-laws d (j .sound)) (j .legal) r l i k n) v m)
+      where
+        answer : hears d q b .answer ≡ Answers.Done (countAs d q (q .statement .what) (seen d (subject q) (stateOf d b)))
+        answer = ap (λ (h : Reply). h .answer) (hears-is d b q y ∙ reply-done d q (stateOf d b) e)
+
+        go : {e : Cell} {a : ℕ} → Whence d q (stateOf d b) r l e k a → Said e a
+        go (held h) = inl h
+        go (named p w class what is column) =
+            inr (record { level = p; within = w; lists = record { class = class; what = what; is = is; column = column }; done = answer ∙ rw (what, countAs) })

@@ -1,27 +1,30 @@
 -- The theorems, stated over the definition of one call on buffers. Each is proved in proofs/ under the name that stands above it.
 -- Assumes nothing: these are statements.
-use Prim.Native.Nat.{ℕ}
+use Prim.Native.Nat.{ℕ, _<_, _≤_}
 use mathlib.Core.Path.{_≡_}
 use mathlib.Core.Logic.{_≢_, _⊎_}
-use mathlib.Core.Bool.{true, false}
-use mathlib.Core.List.{List}
+use mathlib.Core.Bool.{Bool, true, false}
+use mathlib.Core.List.{List, [], _∷_, map}
 use mathlib.Core.Option.{some}
 use lib.ListN.{length}
 use Rattle.model.specs.declared.Description.{Description}
+use Rattle.model.specs.declared.What.{What}
 use Rattle.model.specs.declared.What.the-variants as Whats
 use Rattle.model.specs.declared.Fault.{Fault}
 use Rattle.model.specs.declared.Answer.the-variants as Answers
 use Rattle.model.specs.declared.Verdict.{Verdict}
 use Rattle.model.specs.declared.Verdict.the-variants as Verdicts
-use Rattle.model.specs.Numbers.{countOf}
-use Rattle.model.specs.Description.{over, totalOf, sound}
-use Rattle.model.specs.Tables.{Cell, Tables, cell, rowsOf, seen, at}
+use Rattle.model.specs.Numbers.{answerNumber, countOf}
+use Rattle.model.specs.Description.{over, foreignOf, refersOf, totalOf, sound}
+use Rattle.model.specs.Tables.{Cell, Tables, cell, nocell, rowsOf, seen, at}
+use Rattle.model.specs.Conditions.{met}
 use Rattle.model.specs.Buffers.{Buffers, stateOf, buffersOf}
 use Rattle.model.specs.Legal.{LegalState}
 use Rattle.model.specs.Judge.{judge}
 use Rattle.model.specs.Listed.{listed}
 use Rattle.model.specs.Uplevel.{entityOf}
-use Rattle.model.specs.Run.{Request, subject, relation, Reply, Outcome, run}
+use Rattle.model.specs.Run.{Request, subject, relation, Reply, allTests, run}
+use Rattle.theory.specs.Places.{entryAt}
 use Rattle.theory.specs.Queues.{Merge, Each, SameRun}
 
 -- ---- words of the statements
@@ -83,6 +86,46 @@ pub record Kept (d : Description) (b : Buffers) (q : Request) : Type 0 where
 abbrev pub RefusalKeeps : Type 0
 RefusalKeeps = (d : Description) (b : Buffers) (q : Request) (fault : Fault) → hears d q b .answer ≡ Answers.Refused fault → Kept d b q
 
+-- ---- least-given
+
+-- at that place of a list of tests stands one for this fault, and it holds, or fails: the fault's number applies
+abbrev pub Test : List (Bool × Fault) → ℕ → Bool → Fault → Type 0
+Test tests place holds fault = entryAt tests place ≡ some (holds, fault)
+
+abbrev pub numberOf : Fault → ℕ
+numberOf fault = answerNumber (Answers.Refused fault)
+
+-- the numbers that 01's table has for each kind of statement
+unfoldable pub numbersFor : What → List ℕ
+numbersFor Whats.Insert = 1 ∷ 2 ∷ 3 ∷ 4 ∷ 6 ∷ 9 ∷ 11 ∷ 13 ∷ []
+numbersFor Whats.Delete = 1 ∷ 2 ∷ 3 ∷ 4 ∷ 12 ∷ []
+numbersFor Whats.Update = 1 ∷ 2 ∷ 3 ∷ 4 ∷ 6 ∷ 11 ∷ []
+numbersFor (Whats.Uplevel key class) = 1 ∷ 2 ∷ 3 ∷ 4 ∷ 5 ∷ 6 ∷ 7 ∷ 8 ∷ 9 ∷ 10 ∷ 11 ∷ 13 ∷ []
+numbersFor Whats.Select = 1 ∷ 2 ∷ 3 ∷ 4 ∷ 5 ∷ 14 ∷ []
+
+-- the test for the fault fails, and every test before it holds
+pub record First (tests : List (Bool × Fault)) (fault : Fault) : Type 0 where
+  pub place : ℕ
+  pub fails : Test tests place false fault
+  pub before : (n : ℕ) (holds : Bool) (other : Fault) → n < place → Test tests n holds other → holds ≡ true
+
+pub record LeastGiven (d : Description) (b : Buffers) (q : Request) : Type 0 where
+  -- the call has a test for each number of its kind of statement, and for no other
+  pub numbers : map (λ (t : Bool × Fault). numberOf (t .1)) (allTests d b q) ≡ numbersFor (q .statement .what)
+  -- the numbers rise along the list of tests
+  pub rise : (m n : ℕ) (x y : Bool) (fault other : Fault) → m < n → Test (allTests d b q) m x fault → Test (allTests d b q) n y other
+      → numberOf fault < numberOf other
+  -- the fault that is answered is the first in the list whose test fails
+  pub first : (fault : Fault) → hears d q b .answer ≡ Answers.Refused fault → First (allTests d b q) fault
+  -- no test that fails has a lesser number than the one answered
+  pub least : (n : ℕ) (fault : Fault) → Test (allTests d b q) n false fault → answerNumber (hears d q b .answer) ≤ numberOf fault
+  -- where the statement is done, every test holds
+  pub done : (count : ℕ) → hears d q b .answer ≡ Answers.Done count
+      → (n : ℕ) (holds : Bool) (fault : Fault) → Test (allTests d b q) n holds fault → holds ≡ true
+
+abbrev pub LeastIsGiven : Type 0
+LeastIsGiven = (d : Description) (b : Buffers) (q : Request) → LeastGiven d b q
+
 -- ---- apart-commute
 
 -- in either order the same two answers with their output buffers, and the same table buffers
@@ -100,11 +143,6 @@ abbrev pub QueuesMerge : Type 0
 QueuesMerge =
     (d : Description) (b : Buffers) (qs ps : List Request) → Yes d b → Each (λ q. Each (λ p. Apart d q p) ps) qs
     → (m m′ : Merge qs ps) → SameRun (leaves d) (hears d) m m′ b
-
--- ---- one-outcome
-
-abbrev pub OneOutcome : Type 0
-OneOutcome = (d : Description) (b : Buffers) (q : Request) (o o′ : Outcome) → run d b q ≡ o → run d b q ≡ o′ → o ≡ o′
 
 -- ---- silence-shows
 
@@ -126,6 +164,64 @@ SilenceShows =
     → (at d (tables d (leaves d q b)) (relation q) (subject q) (entity .value) 1 ≡ entity)
     × (at d (tables d (leaves d q b)) (relation q) (subject q) (entity .value) k ≡ cell 0 a)
 
+-- ---- delete-as-said
+
+-- level l is above level c
+pub record IsAbove (d : Description) (l c : ℕ) : Type 0 where
+  pub dominates : over d l c ≡ true
+  pub other : l ≢ c
+
+-- what 01 says of a DELETE, on the tables before it: row i of relation r at level l, and its cell in column k
+module _ (d : Description) (b : Buffers) (q : Request) where
+  -- "among rows at c that meet the conditions"
+  pub record Deleted (r l i : ℕ) : Type 0 where
+    pub within : r ≡ relation q
+    pub level : l ≡ subject q
+    pub meets : met d (q .conditions) (tables d b r l i) ≡ true
+
+  -- a row above c of the entity of one of those
+  pub record OfDeleted (r l i : ℕ) : Type 0 where
+    pub above : IsAbove d l (subject q)
+    pub row : ℕ
+    pub deleted : Deleted r (subject q) row
+    pub entity : tables d b r l i 1 ≡ tables d b r (subject q) row 1
+
+  -- "If its key class is c, every row of that entity above c is emptied"
+  pub record Emptied (r l i : ℕ) : Type 0 where
+    pub of : OfDeleted r l i
+    pub key : tables d b r l i 1 .class ≡ subject q
+
+  -- "at each level above, in every relation referring to it, a reference whose named row was emptied"
+  pub record NamesEmptied (r l i k : ℕ) : Type 0 where
+    pub reference : k ≡ foreignOf d r
+    pub row : ℕ
+    pub names : tables d b (refersOf d r) l row 1 .value ≡ tables d b r l i k .value
+    pub emptied : Emptied (refersOf d r) l row
+
+  -- "If its key class is below c, cells of class c in that entity's rows above c"
+  pub record Lent (r l i k : ℕ) : Type 0 where
+    pub of : OfDeleted r l i
+    pub key : IsAbove d (subject q) (tables d b r l i 1 .class)
+    pub class : tables d b r l i k .class ≡ subject q
+
+pub record DeleteSaid (d : Description) (b : Buffers) (q : Request) : Type 0 where
+  -- "each is emptied."
+  pub deleted : (r l i k : ℕ) → Deleted d b q r l i → tables d (leaves d q b) r l i k ≡ nocell
+  -- "every row of that entity above c is emptied;"
+  pub emptied : (r l i k : ℕ) → Emptied d b q r l i → tables d (leaves d q b) r l i k ≡ nocell
+  -- "a reference whose named row was emptied becomes null, class kept."
+  pub references : (r l i k : ℕ) → NamesEmptied d b q r l i k → tables d (leaves d q b) r l i k ≡ cell 0 (tables d b r l i k .class)
+  -- "cells of class c in that entity's rows above c become null, class kept."
+  pub lent : (r l i k : ℕ) → Lent d b q r l i k → tables d (leaves d q b) r l i k ≡ cell 0 (tables d b r l i k .class)
+  -- nothing is said of any other cell, and it stays
+  pub stays : (r l i k : ℕ) → (Deleted d b q r l i → ⊥) → (Emptied d b q r l i → ⊥) → (NamesEmptied d b q r l i k → ⊥) → (Lent d b q r l i k → ⊥)
+      → tables d (leaves d q b) r l i k ≡ tables d b r l i k
+
+abbrev pub DeleteAsSaid : Type 0
+DeleteAsSaid =
+    (d : Description) (b : Buffers) (q : Request) (count : ℕ) → q .statement .what ≡ Whats.Delete → hears d q b .answer ≡ Answers.Done count
+    → DeleteSaid d b q
+
 -- ---- trust-is-named
 
 -- that entity's row at level l had class a in column k before, with a value or waiting for one
@@ -134,11 +230,12 @@ pub record Held (T : Tables) (r l : ℕ) (entity : Cell) (k a : ℕ) : Type 0 wh
   pub one : T r l row 1 ≡ entity
   pub class : T r l row k .class ≡ a
 
--- the request is an UPLEVEL at l, in relation r, of the entity, which lists column k FROM a
+-- the request is an UPLEVEL at l, in relation r, of the entity, which lists column k FROM a; and it was done
 pub record Named (d : Description) (b : Buffers) (q : Request) (r l : ℕ) (entity : Cell) (k a : ℕ) : Type 0 where
   pub level : subject q ≡ l
   pub within : relation q ≡ r
   pub lists : Lists d b q entity k a
+  pub done : hears d q b .answer ≡ Answers.Done 1
 
 abbrev pub TrustIsNamed : Type 0
 TrustIsNamed =
