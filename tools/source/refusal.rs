@@ -1,4 +1,4 @@
-// Why a statement was refused, in words: what its number says of this statement. What the number doesn't tell and the description doesn't either is not
+// Why a statement was refused, in words: what its number says of this statement. What neither the number nor the description tells is not
 // guessed.
 
 use crate::malformed::malformed;

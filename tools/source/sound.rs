@@ -1,5 +1,5 @@
-// What is wrong with a description, if anything: the first breach of its rules, with its line. It is looked for only where the register has said that
-// the description is at fault, to tell people where.
+// What is wrong with a description, if anything: the first breach of its rules, with its line. It is looked for only where mlrun has refused
+// something, to tell people where the fault is.
 
 use crate::names::Names;
 use crate::record::Relation;
@@ -15,18 +15,23 @@ const LABEL: u16 = 4095;
 
 pub fn fault(state: &State, names: &Names) -> Option<(usize, String)> {
     let (line, labels) = &state.labels;
-    labels_fault(labels).map(|why| (*line, why)).or_else(|| {
-        let mut cells = 0;
-        for (at, (line, relation)) in state.relations.iter().enumerate() {
-            cells += labels.len() * relation.ranges.len() * usize::from(relation.rows);
-            let why = relation_fault(state, names, at + 1, relation);
-            let why = why.or_else(|| if cells > CELLS { Some(format!("with this relation there are {cells} cells, and the most is {CELLS}")) } else { None });
-            if let Some(why) = why {
-                return Some((*line, why));
-            }
+    if let Some(why) = labels_fault(labels) {
+        return Some((*line, why));
+    }
+    if state.relations.is_empty() {
+        return Some((*line, "no RELATION follows these labels".to_string()));
+    }
+    let mut cells = 0;
+    for (at, (line, relation)) in state.relations.iter().enumerate() {
+        if let Some(why) = relation_fault(state, names, at + 1, relation) {
+            return Some((*line, why));
         }
-        if state.relations.is_empty() { Some((*line, "no RELATION follows these labels".to_string())) } else { None }
-    })
+        cells += labels.len() * relation.ranges.len() * usize::from(relation.rows);
+        if cells > CELLS {
+            return Some((*line, format!("with this relation there are {cells} cells, and the most is {CELLS}")));
+        }
+    }
+    None
 }
 
 fn labels_fault(labels: &[u16]) -> Option<String> {
