@@ -11,8 +11,8 @@ use std::sync::atomic::{AtomicUsize, Ordering};
 use std::sync::Mutex;
 use std::time::{Duration, Instant};
 
-/// How long another program may take for one stream.
-const PATIENCE: Duration = Duration::from_secs(30);
+/// How long another program may take for one stream. Under an emulator the longest takes more than a minute; this is for one that hangs.
+const PATIENCE: Duration = Duration::from_secs(300);
 
 /// What is compared: the special streams, then those of a seed.
 pub struct Trial {
