@@ -7,7 +7,7 @@ use mathlib.Core.List.{List, [], _∷_, _++_}
 use Prim.Native.Nat.{ℕ, zero, suc, _+_, _≤_}
 use native.Mathlib.Omega.{arith}
 use lib.Dec.{ltb, leb}
-use lib.ListN.{length, take, drop, length-append, take-append-drop, List·getD-append}
+use lib.ListN.{length, take, drop, length-append, length-take, take-append-drop, List·getD-append}
 use lib.Seq.{slice, take-at, take-append-le, drop-append-le, take-append-add, drop-drop, length-take-le}
 use borrow.Author.Tests.{leb-true, ltb-false, le-ltb}
 use Rattle.bounded.specs.Lists.{writeAt}
@@ -36,6 +36,10 @@ wanted-most bytes =
 pub front-behind : (bytes : List ℕ) → front bytes ++ behind bytes ≡ bytes
 unfolding front behind
 front-behind bytes = take-append-drop (wanted bytes) bytes
+
+pub front-within : (bytes : List ℕ) → length (front bytes) ≤ length bytes
+unfolding front
+front-within bytes = omega (arith, length-take (wanted bytes) bytes)
 
 -- a record that is ready stays as it is, whatever is read behind it
 module _ (bytes more : List ℕ) (ready : leb (wanted bytes) (length bytes) ≡ true) where

@@ -1,2 +1,2 @@
-pub mod Front
+pub mod Reading
 pub mod Within

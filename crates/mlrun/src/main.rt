@@ -1,18 +1,22 @@
 // Reads records from standard input, one after the other, and writes what each prints to standard output (01, "mlrun"). It fills a buffer,
 // takes a step and writes; what a step does is proved in `stream`.
-mod input;
+mod reading;
+mod waiting;
+mod writing;
 
-use input::Window;
+use input::front;
 use model::Description;
+use reading::fill;
+use reading::size;
 use records::descriptions::nothing;
 use stream::step;
+use writing::drain;
+use writing::left;
+use writing::put;
 ghost use mathlib.Core.Path.{_≡_};
 ghost use Prim.Native.Nat.{_≤_};
 ghost use lib.ListN.{length};
 ghost use Rattle.mlrun.specs.Within.{Within};
-
-// The room that a step is given for what it prints. No answer takes as much: 1,024 rows of at most 117 bytes, and one line.
-const ROOM: usize = 131072;
 
 // Where the run stands: what is there of the input, what waits to be written, and what is kept from record to record.
 struct State {
@@ -22,30 +26,6 @@ struct State {
     goes: bool,
     last: u16,
     description: Description,
-}
-
-// Writes what is waiting where there might not be room for one more answer, or where the next record must be waited for; answers whether that
-// could be done.
-fn drain(output: &[u8], waiting: usize, ready: bool) -> bool
-    requires { ⌜ waiting ≤ length (now output) ⌝ }
-{
-    if left(waiting, ready) == waiting {
-        return true;
-    }
-    io::write_all(1, &output[..waiting])
-}
-
-// How much is waiting then.
-fn left(waiting: usize, ready: bool) -> usize
-    ensures { λ r. ⌜ r ≤ 131072 ⌝ }
-{
-    if !ready {
-        return 0;
-    }
-    if waiting <= ROOM {
-        return waiting;
-    }
-    0
 }
 
 // The lesser of two.
@@ -90,7 +70,22 @@ fn take(
     }
 }
 
-// The next record, if the input has one more and what was waiting could be written.
+// The run ends here, with nothing left to write.
+fn stopped(state: State) -> State
+    ensures { λ r. ⌜ (r .from ≡ 0) × (r .to ≡ 0) × (r .waiting ≡ 0) ⌝ }
+{
+    let description = state.description;
+    State {
+        from: 0,
+        to: 0,
+        waiting: 0,
+        goes: false,
+        last: state.last,
+        description,
+    }
+}
+
+// The next record, if the input has one more. Where what is waiting can't be written, none is waited for.
 fn next(
     input: &mut [u8],
     values: &mut [u32],
@@ -102,17 +97,20 @@ fn next(
     requires { ⌜ Within state (length (now input)) (length (now output)) ⌝ }
     ensures { λ r. ⌜ Within r (length (now (input .entry))) (length (now (output .entry))) ⌝ }
 {
-    let held = Window {
-        from: state.from,
-        to: state.to,
-    };
-    let ready = input::ready(input, held);
-    let drained = drain(output, state.waiting, ready);
+    let from = state.from;
+    let to = state.to;
+    let ready = front::ready(&input[from..to]);
     let waiting = left(state.waiting, ready);
-    let window = input::fill(input, held);
-    let size = input::size(input, window);
+    if !drain(output, state.waiting, waiting) {
+        return stopped(state);
+    }
+    let window = fill(input, from, to, ready);
+    if !window.good {
+        return stopped(state);
+    }
     let from = window.from;
     let to = window.to;
+    let size = size(input, from, to);
     let description = state.description;
     let after = State {
         from: from + size,
@@ -123,9 +121,6 @@ fn next(
         description,
     };
     if size == 0 {
-        return after;
-    }
-    if !drained {
         return after;
     }
     take(
@@ -160,7 +155,7 @@ fn run(input: &mut [u8], values: &mut [u32], classes: &mut [u8], output: &mut [u
         number += 1;
     }
     let waiting = state.waiting;
-    io::write_all(1, &output[..waiting]);
+    put(output, waiting);
 }
 
 fn main() {
