@@ -3,15 +3,15 @@ use Prim.Native.Nat.{ℕ, _≤_, _-_}
 use mathlib.Core.Path.{_≡_, refl, sym, _∙_}
 use native.Mathlib.Omega.{arith}
 use borrow.Author.Needs.{needs}
-use lib.ListN.{length, length-take}
+use lib.ListN.{length}
 use Rattle.mlrun.specs.declared.State.{State}
 use Rattle.mlrun.specs.Within.{Within}
 use Rattle.mlrun.proofs.run.Statement.{statement}
 use Rattle.mlrun.proofs.run.Tie as tie
 use Rattle.mlrun.proofs.run.Reads as reads
 use Rattle.mlrun.proofs.run.Lts as lts
-use Rattle.io.proofs.write_all.Reads as write-all-reads
 use Rattle.mlrun.proofs.next.Reads as next-reads
+use Rattle.mlrun.proofs.writing.put.Reads as put-reads
 use Rattle.records.proofs.descriptions.nothing.Reads as nothing-reads
 
 -- within buffers of the same lengths
@@ -37,63 +37,55 @@ abbrev μ-loop : tie.MeasureT-loop
 μ-loop input₀ values₀ classes₀ output₀ state₀ number₀ input values classes output state number =
     18446744073709551615 - number
 
--- src/main.rt:130:9
+-- src/main.rt:140:9
 nothing-requires : tie.Need-nothing-requires Inv-loop μ-loop
 nothing-requires c κs = search needs
 
--- src/main.rt:140:5
+-- src/main.rt:150:5
 loop-holds : tie.Need-loop-holds Inv-loop μ-loop
 loop-holds c =
     (record { ordered = omega arith; read = omega arith; waiting-is = omega arith; record-fits = omega arith; answer-fits = omega arith }, refl, refl, refl, refl)
 
--- src/main.rt:144:9
+-- src/main.rt:154:9
 next-requires : tie.Need-next-requires Inv-loop μ-loop
 next-requires c κs = let i = c .before .before .before .before .before .before .before .loop .inv in moved (i .0) (sym (i .1)) (sym (i .4))
 
--- src/main.rt:145:9
+-- src/main.rt:155:9
 add-number : tie.Need-add-number Inv-loop μ-loop
 add-number c = omega (arith, c .before .before .before .before .before .before .before .before .before .before .before .before .before .before .before .loop-test .taken)
 
--- src/main.rt:140:5
+-- src/main.rt:150:5
 loop-less : tie.Need-loop-less Inv-loop μ-loop
 loop-less c = omega (arith, c .before .before .before .before .before .before .before .before .before .before .before .before .before .before .before .loop-test .taken)
 
--- src/main.rt:140:5
+-- src/main.rt:150:5
 loop-again : tie.Need-loop-again Inv-loop μ-loop
 loop-again c =
     let i = c .before .before .before .before .before .before .before .before .before .before .before .before .before .before .before .before .loop .inv in
     let n = c .before .before .before .before .before .before .before .before .next in
     (moved (n .ensures) (i .1) (i .4), n .kept .0 ∙ i .1, n .kept .1 .0 ∙ i .2, n .kept .1 .1 .0 ∙ i .3, n .kept .1 .1 .1 .0 ∙ i .4)
 
--- src/main.rt:148:22
-slice-reshare-prefix-write-all : tie.Need-slice-reshare-prefix-write-all Inv-loop μ-loop
-slice-reshare-prefix-write-all c = let i = c .before .loop .inv in omega (arith, i .0 .waiting-is, i .4)
+-- src/main.rt:158:5
+put-requires : tie.Need-put-requires Inv-loop μ-loop
+put-requires c κs = let i = c .before .before .loop .inv in omega (arith, i .0 .waiting-is, i .4)
 
--- src/main.rt:148:22
-slice-aggregate-write-all : tie.Need-slice-aggregate-write-all Inv-loop μ-loop
-slice-aggregate-write-all c = let i = c .before .before .loop .inv in simp length-take (omega (arith, i .0 .waiting-is, i .4))
-
--- src/main.rt:148:5
-write-all-requires : tie.Need-write-all-requires Inv-loop μ-loop
-write-all-requires c κs = search needs
-
--- src/main.rt:127:1
+-- src/main.rt:137:1
 same-length : tie.Need-same-length Inv-loop μ-loop
 same-length c = c .before .before .before .loop .inv .1
 
--- src/main.rt:127:1
+-- src/main.rt:137:1
 same-length-2 : tie.Need-same-length-2 Inv-loop μ-loop
 same-length-2 c = c .before .before .before .loop .inv .2
 
--- src/main.rt:127:1
+-- src/main.rt:137:1
 same-length-3 : tie.Need-same-length-3 Inv-loop μ-loop
 same-length-3 c = c .before .before .before .loop .inv .3
 
--- src/main.rt:127:1
+-- src/main.rt:137:1
 same-length-4 : tie.Need-same-length-4 Inv-loop μ-loop
 same-length-4 c = c .before .before .before .loop .inv .4
 
--- src/main.rt:127:1
+-- src/main.rt:137:1
 returns : tie.Need-returns Inv-loop μ-loop
 returns c = search needs
 
@@ -109,9 +101,7 @@ run-spec =
     add-number
     loop-less
     loop-again
-    slice-reshare-prefix-write-all
-    slice-aggregate-write-all
-    write-all-requires
+    put-requires
     same-length
     same-length-2
     same-length-3
