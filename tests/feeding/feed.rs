@@ -4,6 +4,7 @@
 //                                      piece, and what the program writes is left lying at first
 //     feed socket SIZE FILE PROGRAM    as waiting, through one socket in place of two pipes
 //     feed asking SIZE FILE PROGRAM    after each piece but the first, a line is waited for before the next piece is sent
+//     feed broken SIZE FILE PROGRAM    behind FILE the input doesn't end, but can't be read: it is a socket that is closed with a byte left in it
 use std::fs::File;
 use std::io::{Read, Write};
 use std::net::Shutdown;
@@ -82,6 +83,13 @@ fn main() {
             send(&ours, &stream, size, waits, lines);
             let _ = ours.shutdown(Shutdown::Write);
         });
+    } else if kind == "broken" {
+        let (ours, mut theirs) = UnixStream::pair().expect("a socket");
+        let (back, output) = pipe();
+        theirs.write_all(b".").expect("a byte");
+        child = start(&words, OwnedFd::from(theirs), output);
+        from = Box::new(File::from(back));
+        sender = spawn(move || send(ours, &stream, size, waits, lines));
     } else {
         let (input, to) = pipe();
         let (back, output) = pipe();
