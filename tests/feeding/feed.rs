@@ -1,9 +1,10 @@
 // Runs a program on a stream that comes in pieces, and prints what the program writes. Its exit status is the program's.
 //     feed SIZE FILE PROGRAM           FILE in pieces of SIZE bytes, through a pipe
 //     feed waiting SIZE FILE PROGRAM   the same, with both of the program's ends non-blocking; nothing comes at first, nor after the first
-//                                      piece, and what the program writes is left lying at first
+//                                      piece, and what the program writes is left lying at first, in a pipe of 4,096 bytes
 //     feed socket SIZE FILE PROGRAM    as waiting, through one socket in place of two pipes
 //     feed asking SIZE FILE PROGRAM    after each piece but the first, a line is waited for before the next piece is sent
+//     feed broken SIZE FILE PROGRAM    behind FILE the input doesn't end, but can't be read: it is a socket that is closed with a byte left in it
 use std::fs::File;
 use std::io::{Read, Write};
 use std::net::Shutdown;
@@ -21,6 +22,7 @@ extern "C" {
 
 const F_GETFL: i32 = 3;
 const F_SETFL: i32 = 4;
+const F_SETPIPE_SZ: i32 = 1031;
 const O_NONBLOCK: i32 = 0o4000;
 const O_CLOEXEC: i32 = 0o2000000;
 
@@ -82,12 +84,20 @@ fn main() {
             send(&ours, &stream, size, waits, lines);
             let _ = ours.shutdown(Shutdown::Write);
         });
+    } else if kind == "broken" {
+        let (ours, mut theirs) = UnixStream::pair().expect("a socket");
+        let (back, output) = pipe();
+        theirs.write_all(b".").expect("a byte");
+        child = start(&words, OwnedFd::from(theirs), output);
+        from = Box::new(File::from(back));
+        sender = spawn(move || send(ours, &stream, size, waits, lines));
     } else {
         let (input, to) = pipe();
         let (back, output) = pipe();
         if waits {
             never_blocks(&input);
             never_blocks(&output);
+            assert!(unsafe { fcntl(output.as_raw_fd(), F_SETPIPE_SZ, 4096) } >= 0);
         }
         child = start(&words, input, output);
         from = Box::new(File::from(back));
