@@ -1,7 +1,7 @@
 // Runs a program on a stream that comes in pieces, and prints what the program writes. Its exit status is the program's.
 //     feed SIZE FILE PROGRAM           FILE in pieces of SIZE bytes, through a pipe
 //     feed waiting SIZE FILE PROGRAM   the same, with both of the program's ends non-blocking; nothing comes at first, nor after the first
-//                                      piece, and what the program writes is left lying at first
+//                                      piece, and what the program writes is left lying at first, in a pipe of 4,096 bytes
 //     feed socket SIZE FILE PROGRAM    as waiting, through one socket in place of two pipes
 //     feed asking SIZE FILE PROGRAM    after each piece but the first, a line is waited for before the next piece is sent
 //     feed broken SIZE FILE PROGRAM    behind FILE the input doesn't end, but can't be read: it is a socket that is closed with a byte left in it
@@ -22,6 +22,7 @@ extern "C" {
 
 const F_GETFL: i32 = 3;
 const F_SETFL: i32 = 4;
+const F_SETPIPE_SZ: i32 = 1031;
 const O_NONBLOCK: i32 = 0o4000;
 const O_CLOEXEC: i32 = 0o2000000;
 
@@ -96,6 +97,7 @@ fn main() {
         if waits {
             never_blocks(&input);
             never_blocks(&output);
+            assert!(unsafe { fcntl(output.as_raw_fd(), F_SETPIPE_SZ, 4096) } >= 0);
         }
         child = start(&words, input, output);
         from = Box::new(File::from(back));
