@@ -1,3 +1,4 @@
+-- Only the part behind the place is lent to `read`, so what stands before it stays (`take-put`).
 use Prim.Native.Nat.{_-_}
 use lib.ListN.{length}
 use borrow.Rule.Slice.PartMut.{take-put}
