@@ -1,3 +1,4 @@
+-- The invariant: what was there at the start is there, at the front, and what was read stands behind it, within the buffer.
 use Prim.Native.Nat.{_≤_, _-_}
 use mathlib.Core.Path.{_≡_, refl, _∙_}
 use native.Mathlib.Omega.{arith}
@@ -7,7 +8,6 @@ use lib.ListN.{length, length-take}
 use Rattle.input.proofs.Stepping.{wanted-most}
 use Rattle.mlrun.specs.Reading.{Added}
 use Rattle.mlrun.proofs.Holding.{added-none, added-on, holds-first, holds-at}
--- The invariant: what was there at the start is there, at the front, and what was read stands behind it, within the buffer.
 use Rattle.mlrun.proofs.reading.load.Statement.{statement}
 use Rattle.mlrun.proofs.reading.load.Tie as tie
 use Rattle.mlrun.proofs.reading.load.Reads as reads
