@@ -3,7 +3,7 @@ use crate::waiting::again;
 use input::buffer::shift;
 use input::front::wanted;
 ghost use mathlib.Core.Path.{_≡_};
-ghost use Prim.Native.Nat.{_+_, _≤_};
+ghost use Prim.Native.Nat.{_+_, _≤_, _<_};
 ghost use lib.ListN.{length, take};
 ghost use lib.Seq.{slice};
 ghost use Rattle.input.specs.Front.{front};
@@ -23,9 +23,9 @@ pub(crate) struct Window {
     pub(crate) good: bool,
 }
 
-// One read into the buffer from a place on.
+// One read into the buffer from a place on, which the buffer has, so that no byte means no more input.
 fn read(input: &mut [u8], to: usize) -> Came
-    requires { ⌜ to ≤ length (now input) ⌝ }
+    requires { ⌜ to < length (now input) ⌝ }
     ensures { λ r. ⌜ Added to (r .count) (now (input .entry)) (now (input .exit)) ⌝ }
 {
     let part = &mut input[to..];
@@ -48,7 +48,7 @@ fn read(input: &mut [u8], to: usize) -> Came
 
 // Reads as soon as there is something to read.
 fn more(input: &mut [u8], to: usize) -> Came
-    requires { ⌜ to ≤ length (now input) ⌝ }
+    requires { ⌜ to < length (now input) ⌝ }
     ensures { λ r. ⌜ Added to (r .count) (now (input .entry)) (now (input .exit)) ⌝ }
 {
     let mut turn = 0u64;

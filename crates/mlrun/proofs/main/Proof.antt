@@ -1,3 +1,4 @@
+-- The buffers have the lengths that `run` asks.
 use native.Mathlib.Omega.{arith}
 use lib.ListN.{length-replicate}
 use borrow.Author.Needs.{needs}

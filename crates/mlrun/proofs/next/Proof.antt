@@ -1,3 +1,4 @@
+-- What is held and what waits stay within their buffers; where the run stops, nothing is held and nothing waits.
 use native.Mathlib.Omega.{arith}
 use borrow.Author.Needs.{needs}
 use Rattle.mlrun.proofs.next.Statement.{statement}

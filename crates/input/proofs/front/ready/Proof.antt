@@ -1,3 +1,4 @@
+-- What `wanted` answers, beside the number of bytes.
 use borrow.Author.Needs.{needs}
 use Rattle.input.proofs.front.ready.Statement.{statement}
 use Rattle.input.proofs.front.ready.Tie as tie

@@ -1,3 +1,4 @@
+-- The length of what is taken is the lesser of both numbers.
 use native.Mathlib.Omega.{arith}
 use lib.ListN.{length-take}
 use Rattle.input.specs.Front.{front}

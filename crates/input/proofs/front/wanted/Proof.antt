@@ -1,3 +1,4 @@
+-- By cases, as the definition goes.
 use borrow.Author.Tests.{lt-ltb, le-ltb}
 use Rattle.input.specs.Front.{wanted}
 use borrow.Author.Needs.{needs}

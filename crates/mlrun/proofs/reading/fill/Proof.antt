@@ -1,3 +1,4 @@
+-- What is held stays held where it stands (`holds-still`), or is moved and then read behind (`holds-moved`).
 use native.Mathlib.Omega.{arith}
 use Rattle.mlrun.proofs.Holding.{holds-still, holds-moved, moved-within}
 use borrow.Author.Needs.{needs}

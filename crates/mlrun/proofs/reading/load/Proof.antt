@@ -1,13 +1,13 @@
+-- The invariant: what was there at the start is there, at the front, and what was read stands behind it, within the buffer.
 use Prim.Native.Nat.{_≤_, _-_}
 use mathlib.Core.Path.{_≡_, refl, _∙_}
 use native.Mathlib.Omega.{arith}
 use native.Mathlib.Nat.{le-refl}
 use borrow.Author.Needs.{needs}
-use lib.ListN.{length, length-take}
+use lib.ListN.{length, take, length-take}
 use Rattle.input.proofs.Stepping.{wanted-most}
 use Rattle.mlrun.specs.Reading.{Added}
 use Rattle.mlrun.proofs.Holding.{added-none, added-on, holds-first, holds-at}
--- The invariant: what was there at the start is there, at the front, and what was read stands behind it, within the buffer.
 use Rattle.mlrun.proofs.reading.load.Statement.{statement}
 use Rattle.mlrun.proofs.reading.load.Tie as tie
 use Rattle.mlrun.proofs.reading.load.Reads as reads
@@ -40,7 +40,9 @@ wanted-requires c κs = search needs
 
 -- src/reading.rt:87:13
 more-requires : tie.Need-more-requires Inv-loop μ-loop
-more-requires c κs = let k = c .before .before .before .before .loop .inv in omega (arith, k .1, k .2)
+more-requires c κs =
+    let k = c .before .before .before .before .loop .inv in
+    omega (arith, k .2, c .before .if1 .taken, c .before .before .wanted .ensures, wanted-most (take (c .before .before .before .before .loop .to) (c .before .before .before .before .loop .input)))
 
 -- src/reading.rt:89:13
 unread-requires : tie.Need-unread-requires Inv-loop μ-loop

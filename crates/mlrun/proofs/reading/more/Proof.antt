@@ -1,3 +1,4 @@
+-- The invariant: no byte came yet, and those up to the place are as they were.
 use Rattle.mlrun.proofs.Holding.{added-less}
 use borrow.Author.Needs.{needs}
 use native.Mathlib.Nat.{le-refl}

@@ -1,4 +1,6 @@
+-- Only the part behind the place is lent to `read`, so what stands before it stays (`take-put`).
 use Prim.Native.Nat.{_-_}
+use native.Mathlib.Nat.{le-of-lt}
 use lib.ListN.{length}
 use borrow.Rule.Slice.PartMut.{take-put}
 use borrow.Author.Needs.{needs}
@@ -40,7 +42,7 @@ returns c =
     let s = c .before .before .before .before .before .before .before .before .before .before .before in
     record {
       within = search needs;
-      kept = take-put (s .args .to) (length (s .args .input .now) - s .args .to) (s .args .input .now) (c .before .before .before .before .before .before .before .read .last .1 .0) (s .pre);
+      kept = take-put (s .args .to) (length (s .args .input .now) - s .args .to) (s .args .input .now) (c .before .before .before .before .before .before .before .read .last .1 .0) (le-of-lt (s .pre));
     }
 
 -- src/reading.rt:40:9
@@ -57,7 +59,7 @@ returns-2 c =
     let s = c .before .before .before .before .before .before .before .before .before .before .before .before in
     record {
       within = search needs;
-      kept = take-put (s .args .to) (length (s .args .input .now) - s .args .to) (s .args .input .now) (c .before .before .before .before .before .before .before .before .read .last .1 .0) (s .pre);
+      kept = take-put (s .args .to) (length (s .args .input .now) - s .args .to) (s .args .input .now) (c .before .before .before .before .before .before .before .before .read .last .1 .0) (le-of-lt (s .pre));
     }
 
 pub read-spec : {M : Type 1} → statement M

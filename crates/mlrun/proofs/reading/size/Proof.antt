@@ -1,3 +1,4 @@
+-- The record at the front is no longer than what is there.
 use mathlib.Core.Path.{_≡_, sym, ap, _∙_}
 use native.Mathlib.Omega.{arith}
 use lib.ListN.{length}

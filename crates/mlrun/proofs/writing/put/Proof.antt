@@ -1,7 +1,7 @@
+-- The invariant: no more was written than is waiting.
 use Prim.Native.Nat.{_≤_, _-_}
 use native.Mathlib.Omega.{arith}
 use borrow.Author.Needs.{needs}
--- The invariant: no more was written than is waiting.
 use Rattle.mlrun.proofs.writing.put.Statement.{statement}
 use Rattle.mlrun.proofs.writing.put.Tie as tie
 use Rattle.mlrun.proofs.writing.put.Reads as reads

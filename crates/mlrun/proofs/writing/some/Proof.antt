@@ -1,3 +1,4 @@
+-- The measure: how many turns are left. Nothing changes from turn to turn.
 use Prim.Native.Nat.{_-_}
 use native.Mathlib.Omega.{arith}
 use borrow.Author.Needs.{needs}
