@@ -11,10 +11,10 @@ use Rattle.model.specs.declared.Description.{Description}
 use Rattle.model.specs.Description.{over, rowCount, columnCount}
 use Rattle.model.specs.Tables.{Cell, Row, Level, State}
 use Rattle.model.proofs.Sound.{sound-r, relation-r}
-use Rattle.model.specs.Buffers.{stateOf}
+use Rattle.model.specs.Buffers.{holding, stateOf}
 use Rattle.cells.specs.declared.layout.Part.{Part}
 use Rattle.cells.specs.Layout.{Laid}
-use Rattle.cells.specs.Changed.{holding, valueAt, changeLevel}
+use Rattle.cells.specs.Changed.{valueAt, changeLevel}
 use Rattle.cells.proofs.Cells.{state-cell}
 use Rattle.cells.proofs.Changes.{change-same, change-here, change-other, change-on}
 use Rattle.asked.specs.Facts.{Ordered, Related}

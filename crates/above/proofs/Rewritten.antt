@@ -13,9 +13,9 @@ use Rattle.bounded.proofs.Cases.{cases, and-false-right}
 use Rattle.bounded.proofs.Reflection.{is-false}
 use Rattle.model.specs.declared.Description.{Description}
 use Rattle.model.specs.Tables.{Cell, Row, cell, norow, same, Level, State}
-use Rattle.model.specs.Buffers.{stateOf}
+use Rattle.model.specs.Buffers.{holding, stateOf}
 use Rattle.model.proofs.Sound.{between-r}
-use Rattle.cells.specs.Changed.{holding, valueAt, classAt, withCell, withRow, changeLevel}
+use Rattle.cells.specs.Changed.{valueAt, classAt, withCell, withRow, changeLevel}
 use Rattle.cells.proofs.Cells.{state-cell}
 use Rattle.cells.proofs.Changes.{level-path, change-same, change-here, change-other}
 use Rattle.cells.proofs.Written.{row-more, row-same}

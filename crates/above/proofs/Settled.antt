@@ -5,7 +5,7 @@ use mathlib.Core.Path.{_≡_, sym, _∙_}
 use lib.ListN.{length}
 use denote.Ref.{now}
 use Rattle.level.proofs.Settled.{Settled}
-use Rattle.cells.specs.Changed.{holding}
+use Rattle.model.specs.Buffers.{holding}
 use Rattle.cells.proofs.Settled.{one-buffers}
 use Rattle.above.proofs.find.touched.Reads as touched
 use Rattle.above.proofs.find.gone.Reads as gone

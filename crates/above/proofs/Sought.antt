@@ -15,8 +15,8 @@ use Rattle.bounded.proofs.Reflection.{of-true, of-false, eqb-r}
 use Rattle.model.specs.declared.Description.{Description}
 use Rattle.model.specs.Description.{rowCount}
 use Rattle.model.specs.Tables.{same, used, State, rowsOf, at}
-use Rattle.model.specs.Buffers.{stateOf}
-use Rattle.cells.specs.Changed.{holding, valueAt, classAt, keyPlace}
+use Rattle.model.specs.Buffers.{holding, stateOf}
+use Rattle.cells.specs.Changed.{valueAt, classAt, keyPlace}
 use Rattle.cells.proofs.Cells.{state-cell}
 use Rattle.cells.proofs.Sought.{place-key, at-there, at-nowhere}
 use Rattle.above.specs.declared.Plan.{Plan}

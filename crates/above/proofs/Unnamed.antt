@@ -15,10 +15,10 @@ use Rattle.bounded.proofs.Reflection.{is-true, of-false, eqb-r}
 use Rattle.model.specs.declared.Description.{Description}
 use Rattle.model.specs.Description.{between, rowCount, foreignOf}
 use Rattle.model.specs.Tables.{Cell, Row, cell, same, Level, State, rowsOf, seek, at}
-use Rattle.model.specs.Buffers.{inside, stateOf}
+use Rattle.model.specs.Buffers.{holding, inside, stateOf}
 use Rattle.model.proofs.Border.{inside-shown}
 use Rattle.model.proofs.Sound.{between-r}
-use Rattle.cells.specs.Changed.{holding, valueAt, classAt, keyPlace, withValue, withRow, changeLevel}
+use Rattle.cells.specs.Changed.{valueAt, classAt, keyPlace, withValue, withRow, changeLevel}
 use Rattle.cells.proofs.Counts.{foreign-is}
 use Rattle.cells.proofs.Cells.{state-cell}
 use Rattle.cells.proofs.Changes.{level-path, change-as, change-same, change-here, change-other}

@@ -11,9 +11,9 @@ ghost use lib.ListN.{length};
 ghost use Prim.Native.Nat.{_<_};
 ghost use Rattle.model.specs.Description.{rowCount};
 ghost use Rattle.model.specs.Tables.{same, at, rowsOf};
-ghost use Rattle.model.specs.Buffers.{stateOf};
+ghost use Rattle.model.specs.Buffers.{holding, stateOf};
 ghost use Rattle.cells.specs.Layout.{Sized, Lent, InLevel, InRow, Row};
-ghost use Rattle.cells.specs.Changed.{holding, keyPlace};
+ghost use Rattle.cells.specs.Changed.{keyPlace};
 ghost use Rattle.above.specs.Facts.{OneRow, touchedBy, goneBy};
 
 // The row of a key at a level, looked for at `hint` first: entities tend to stand in the same row everywhere.

@@ -8,9 +8,8 @@ use cells::layout::Part;
 use model::Description;
 ghost use mathlib.Core.Path.{_≡_};
 ghost use lib.ListN.{length};
-ghost use Rattle.model.specs.Buffers.{stateOf};
+ghost use Rattle.model.specs.Buffers.{holding, stateOf};
 ghost use Rattle.cells.specs.Layout.{Lent};
-ghost use Rattle.cells.specs.Changed.{holding};
 ghost use Rattle.above.specs.Facts.{Working, Planned, carried};
 
 // What a statement does to the rows above, of one relation. A row at the subject's level is touched where it is marked; its entity's rows

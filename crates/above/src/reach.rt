@@ -11,9 +11,9 @@ use model::Description;
 ghost use mathlib.Core.Path.{_≡_};
 ghost use lib.ListN.{length};
 ghost use Prim.Native.Nat.{_<_};
-ghost use Rattle.model.specs.Buffers.{stateOf};
+ghost use Rattle.model.specs.Buffers.{holding, stateOf};
 ghost use Rattle.cells.specs.Layout.{Lent};
-ghost use Rattle.cells.specs.Changed.{holding, changeLevel};
+ghost use Rattle.cells.specs.Changed.{changeLevel};
 ghost use Rattle.asked.specs.Facts.{Ordered, Related};
 ghost use Rattle.above.specs.Facts.{Reaching, Working, Planned, lostBy, handed, givenBy, carried};
 

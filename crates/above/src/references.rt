@@ -15,9 +15,9 @@ ghost use lib.ListN.{length};
 ghost use Prim.Native.Nat.{suc};
 ghost use Rattle.model.specs.Description.{sound, isRelation, rowCount, columnCount};
 ghost use Rattle.model.specs.Tables.{same, at, rowsOf};
-ghost use Rattle.model.specs.Buffers.{inside, stateOf};
+ghost use Rattle.model.specs.Buffers.{holding, inside, stateOf};
 ghost use Rattle.cells.specs.Layout.{Lent, InLevel, InRow};
-ghost use Rattle.cells.specs.Changed.{holding, changeLevel, withRow};
+ghost use Rattle.cells.specs.Changed.{changeLevel, withRow};
 ghost use Rattle.above.specs.Facts.{Apart, Referring, rowUnnamed, withRows, withReferrer, withReferrers};
 
 // Whether a row's entity has a row at the subject's level, or is none and has none.

@@ -12,9 +12,9 @@ ghost use mathlib.Core.Bool.{true};
 ghost use lib.ListN.{length};
 ghost use Rattle.model.specs.Description.{rowCount, columnCount};
 ghost use Rattle.model.specs.Tables.{cell as cellOf};
-ghost use Rattle.model.specs.Buffers.{inside, stateOf};
+ghost use Rattle.model.specs.Buffers.{holding, inside, stateOf};
 ghost use Rattle.cells.specs.Layout.{Lent, InLevel, InRow};
-ghost use Rattle.cells.specs.Changed.{holding, changeLevel, withCell, withRow};
+ghost use Rattle.cells.specs.Changed.{changeLevel, withCell, withRow};
 ghost use Rattle.above.specs.Facts.{OneRow, Apart, Lists, becomes, turnedBy, turned, rowAfter, withRows};
 
 // The value of a cell of the subject's class afterwards.

@@ -15,15 +15,15 @@ use Rattle.bounded.proofs.Reflection.{is-true, is-false, of-true, of-false, and
 use Rattle.model.specs.declared.Description.{Description}
 use Rattle.model.specs.Description.{totalOf, columnCount}
 use Rattle.model.specs.Tables.{Cell, Row, cell, nocell, Level, State}
-use Rattle.model.specs.Buffers.{Buffers, inside, positionOf, stateOf}
+use Rattle.model.specs.Buffers.{Buffers, holding, inside, positionOf, stateOf}
 use Rattle.model.proofs.Border.{Inside, inside-says, inside-shown}
 use Rattle.cells.specs.Layout.{InRow}
-use Rattle.cells.specs.Changed.{holding, numberAt, valueAt, classAt, withCell, withValue, changeLevel}
+use Rattle.cells.specs.Changed.{numberAt, valueAt, classAt, withCell, withValue, changeLevel}
 use Rattle.cells.proofs.Places.{Same, position-below, position-one}
 
 -- a cell is what the two buffers hold for it
 pub state-cell : (d : Description) (vs cs : List ℕ) (r l i k : ℕ) → stateOf d (holding vs cs) l .rows r i k ≡ cell (valueAt d vs r l i k) (classAt d cs r l i k)
-unfolding stateOf numberAt
+unfolding stateOf rowsIn numberAt
 state-cell d vs cs r l i k = cases (inside d r l i k) (λ t. rw t) (λ t. rw t)
 
 -- each column of a row has a cell

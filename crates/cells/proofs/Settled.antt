@@ -10,10 +10,9 @@ use denote.Ref.{now}
 use Rattle.bounded.proofs.Reflection.{is-true, and-r, eqb-r}
 use Rattle.model.specs.declared.Description.{Description}
 use Rattle.model.specs.Description.{totalOf}
-use Rattle.model.specs.Buffers.{Buffers, fitting, stateOf, buffersOf}
+use Rattle.model.specs.Buffers.{Buffers, holding, fitting, stateOf, buffersOf}
 use Rattle.model.proofs.Border.{buffers-state}
 use Rattle.level.proofs.Settled.{Settled}
-use Rattle.cells.specs.Changed.{holding}
 use Rattle.cells.proofs.layout.lay.Reads as lay
 use Rattle.cells.proofs.layout.place.Reads as place
 use Rattle.cells.proofs.read.value_at.Reads as value-at

@@ -11,10 +11,10 @@ use Rattle.bounded.proofs.First.{first-cong, first-holds}
 use Rattle.model.specs.declared.Description.{Description}
 use Rattle.model.specs.Description.{rowCount}
 use Rattle.model.specs.Tables.{Cell, Row, cell, norow, State, rowsOf, place, seek, at}
-use Rattle.model.specs.Buffers.{inside, stateOf}
+use Rattle.model.specs.Buffers.{holding, inside, stateOf}
 use Rattle.model.proofs.Border.{inside-shown}
 use Rattle.cells.specs.Layout.{InLevel}
-use Rattle.cells.specs.Changed.{holding, valueAt, classAt, keyPlace}
+use Rattle.cells.specs.Changed.{valueAt, classAt, keyPlace}
 use Rattle.cells.proofs.Cells.{state-cell}
 
 -- a row has a key

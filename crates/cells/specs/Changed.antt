@@ -10,10 +10,7 @@ use Rattle.bounded.specs.Bounded.{firstBelow}
 use Rattle.model.specs.declared.Description.{Description}
 use Rattle.model.specs.Description.{between, rowCount}
 use Rattle.model.specs.Tables.{Cell, Row, cell, Level, State}
-use Rattle.model.specs.Buffers.{Buffers, inside, positionOf}
-
-abbrev pub holding : List ℕ → List ℕ → Buffers
-holding values classes = record { values = values; classes = classes }
+use Rattle.model.specs.Buffers.{inside, positionOf}
 
 -- what a buffer holds for a cell, and what it would hold for an empty one outside
 unfoldable pub numberAt : ℕ → Description → List ℕ → ℕ → ℕ → ℕ → ℕ → ℕ

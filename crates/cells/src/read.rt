@@ -6,9 +6,9 @@ ghost use mathlib.Core.Path.{_≡_};
 ghost use mathlib.Core.Bool.{true};
 ghost use lib.ListN.{length};
 ghost use Rattle.model.specs.Tables.{nocell, same, emptyRow};
-ghost use Rattle.model.specs.Buffers.{inside, stateOf};
+ghost use Rattle.model.specs.Buffers.{holding, inside, stateOf};
 ghost use Rattle.cells.specs.Layout.{Sized, Lent, InRow};
-ghost use Rattle.cells.specs.Changed.{holding, valueAt, classAt};
+ghost use Rattle.cells.specs.Changed.{valueAt, classAt};
 
 // The value of a cell.
 pub fn value_at(

@@ -5,10 +5,10 @@ use crate::read::is_empty;
 use crate::read::value_at;
 use model::Description;
 ghost use lib.ListN.{length};
-ghost use Rattle.model.specs.Buffers.{stateOf};
+ghost use Rattle.model.specs.Buffers.{holding, stateOf};
 ghost use Rattle.model.specs.Effect.{lowestEmpty};
 ghost use Rattle.cells.specs.Layout.{Sized, Lent, InLevel, Row};
-ghost use Rattle.cells.specs.Changed.{holding, keyPlace, entityPlace};
+ghost use Rattle.cells.specs.Changed.{keyPlace, entityPlace};
 
 // The first row of a level with a key; the number of rows where there is none.
 pub fn find(

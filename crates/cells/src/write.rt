@@ -9,9 +9,9 @@ ghost use mathlib.Core.List.{List};
 ghost use lib.ListN.{length};
 ghost use Rattle.model.specs.Description.{columnCount};
 ghost use Rattle.model.specs.Tables.{cell, norow};
-ghost use Rattle.model.specs.Buffers.{inside, stateOf};
+ghost use Rattle.model.specs.Buffers.{holding, inside, stateOf};
 ghost use Rattle.cells.specs.Layout.{Sized, Lent, InRow};
-ghost use Rattle.cells.specs.Changed.{holding, changeLevel, withCell, withValue, withRow, listedRow};
+ghost use Rattle.cells.specs.Changed.{changeLevel, withCell, withValue, withRow, listedRow};
 
 // A cell is stored.
 pub fn put(

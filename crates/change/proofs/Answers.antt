@@ -20,7 +20,7 @@ use Rattle.model.specs.Listed.{listed}
 use Rattle.model.specs.Effect.{Effect, Above, keep, changed, goneAt, reach, carry, applied, namesRow}
 use Rattle.model.specs.Insert.{listedNames}
 use Rattle.model.specs.Run.{firstFault, left}
-use Rattle.cells.specs.Changed.{holding}
+use Rattle.model.specs.Buffers.{holding}
 use Rattle.cells.proofs.Settled.{one-buffers}
 use Rattle.theory.proofs.Seen.{seen-at}
 use Rattle.change.specs.Facts.{Answered, refuses, does}

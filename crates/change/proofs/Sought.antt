@@ -12,8 +12,8 @@ use Rattle.model.specs.declared.Description.{Description}
 use Rattle.model.specs.Description.{rowCount, refersOf}
 use Rattle.model.specs.Tables.{used, State, rowsOf, at}
 use Rattle.model.specs.Effect.{namesRow}
-use Rattle.model.specs.Buffers.{stateOf}
-use Rattle.cells.specs.Changed.{holding, keyPlace}
+use Rattle.model.specs.Buffers.{holding, stateOf}
+use Rattle.cells.specs.Changed.{keyPlace}
 use Rattle.cells.proofs.Sought.{at-there, at-nowhere}
 
 module _ (d : Description) (vs cs : List ℕ) where

@@ -15,7 +15,7 @@ use Rattle.model.specs.declared.Answer.{Answer}
 use Rattle.model.specs.declared.Answer.the-variants as Answers
 use Rattle.model.specs.Description.{isRelation, rowCount, totalOf, sound}
 use Rattle.model.specs.Tables.{State, rowsOf, seen}
-use Rattle.model.specs.Buffers.{stateOf}
+use Rattle.model.specs.Buffers.{holding, stateOf}
 use Rattle.model.specs.Judge.{legal}
 use Rattle.model.specs.Conditions.{met}
 use Rattle.model.specs.Listed.{listed}
@@ -28,7 +28,6 @@ use Rattle.model.specs.Select.{Shown, selectTests, found, valuesShown, ownersSh
 use Rattle.model.specs.Run.{firstFault, left}
 use Rattle.cells.specs.declared.layout.Part.{Part}
 use Rattle.cells.specs.Layout.{Laid}
-use Rattle.cells.specs.Changed.{holding}
 
 -- ---- what is known
 

@@ -10,11 +10,10 @@ ghost use Prim.Native.Nat.{ℕ};
 ghost use lib.ListN.{length};
 ghost use Rattle.model.specs.Description.{isColumn, foreignOf};
 ghost use Rattle.model.specs.Tables.{rowsOf};
-ghost use Rattle.model.specs.Buffers.{stateOf};
+ghost use Rattle.model.specs.Buffers.{holding, stateOf};
 ghost use Rattle.model.specs.Listed.{each};
 ghost use Rattle.model.specs.Effect.{namesRow};
 ghost use Rattle.model.specs.Insert.{listedNames};
-ghost use Rattle.cells.specs.Changed.{holding};
 ghost use Rattle.change.specs.Facts.{Naming};
 
 // Whether a reference to a key is null or has its row at a level.

@@ -15,9 +15,9 @@ use Rattle.bounded.specs.Bounded.{allBelow}
 use Rattle.bounded.proofs.Cases.{cases, at-end}
 use Rattle.model.specs.declared.Description.{Description}
 use Rattle.model.specs.Tables.{Row, used}
-use Rattle.model.specs.Buffers.{stateOf}
+use Rattle.model.specs.Buffers.{holding, stateOf}
 use Rattle.model.specs.Conditions.{Condition, conditionAt, conditionCount, meets, met}
-use Rattle.cells.specs.Changed.{holding, valueAt}
+use Rattle.cells.specs.Changed.{valueAt}
 use Rattle.cells.proofs.Cells.{state-cell}
 use Rattle.conditions.specs.Facts.{Marked, Narrowed, usedRow, metAt}
 

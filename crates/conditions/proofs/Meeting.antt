@@ -17,9 +17,9 @@ use Rattle.model.specs.declared.Description.{Description}
 use Rattle.model.specs.Description.{between, isColumn, columnCount, over}
 use Rattle.model.specs.Listed.{whole}
 use Rattle.model.specs.Conditions.{Condition, conditionAt, conditionCount, constantFormed, conditionFormed, conditionsFormed, passes, meetsTest, meets}
-use Rattle.model.specs.Buffers.{stateOf}
+use Rattle.model.specs.Buffers.{holding, stateOf}
 use Rattle.model.proofs.Sound.{between-r, column-r}
-use Rattle.cells.specs.Changed.{holding, valueAt, classAt}
+use Rattle.cells.specs.Changed.{valueAt, classAt}
 use Rattle.cells.proofs.Cells.{state-cell}
 use Rattle.asked.specs.Facts.{Ordered}
 use Rattle.conditions.specs.Facts.{passesBy, atMost, Line, Tested}

@@ -9,9 +9,8 @@ ghost use lib.ListN.{length};
 ghost use Prim.Native.Nat.{_≤_, _<_};
 ghost use Rattle.model.specs.Conditions.{conditionAt, conditionCount, conditionFormed, conditionsFormed, constantFormed, meetsTest, meets as meetsOf};
 ghost use Rattle.model.specs.Description.{columnCount, rowCount};
-ghost use Rattle.model.specs.Buffers.{stateOf};
+ghost use Rattle.model.specs.Buffers.{holding, stateOf};
 ghost use Rattle.cells.specs.Layout.{Sized, Lent, InRow, InLevel};
-ghost use Rattle.cells.specs.Changed.{holding};
 ghost use Rattle.asked.specs.Facts.{Ordered};
 ghost use Rattle.conditions.specs.Facts.{Line, Tested, Asking, Marked, Narrowed, Counted, passesBy, atMost, usedRow, metAt, asks};
 

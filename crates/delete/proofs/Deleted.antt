@@ -18,14 +18,14 @@ use Rattle.model.specs.declared.Fault.the-variants as Faults
 use Rattle.model.specs.declared.Answer.the-variants as Answers
 use Rattle.model.specs.Description.{between, rowCount, columnCount, foreignOf, refersOf}
 use Rattle.model.specs.Tables.{Cell, State, Level, rowsOf, nocell, norow, seek, at}
-use Rattle.model.specs.Buffers.{stateOf}
+use Rattle.model.specs.Buffers.{holding, stateOf}
 use Rattle.model.specs.Conditions.{met}
 use Rattle.model.specs.Effect.{Rows, Effect, Above, Change, only}
 use Rattle.model.specs.Delete.{referred, deleteTests, deleted}
 use Rattle.model.specs.Run.{left}
 use Rattle.model.proofs.Sound.{between-r}
 use Rattle.cells.specs.declared.layout.Part.{Part}
-use Rattle.cells.specs.Changed.{holding, valueAt, keyPlace, changeLevel}
+use Rattle.cells.specs.Changed.{valueAt, keyPlace, changeLevel}
 use Rattle.cells.proofs.Cells.{state-cell}
 use Rattle.cells.proofs.Sought.{place-key}
 use Rattle.conditions.specs.Facts.{Marked, Counted, metAt}

@@ -5,7 +5,7 @@
 use mathlib.Core.Path.{_≡_}
 use lib.ListN.{length}
 use denote.Ref.{now}
-use Rattle.cells.specs.Changed.{holding}
+use Rattle.model.specs.Buffers.{holding}
 use Rattle.change.proofs.Answers.{one-answered}
 use Rattle.delete.proofs.delete.Reads as delete
 

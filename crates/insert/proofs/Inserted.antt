@@ -17,14 +17,14 @@ use Rattle.model.specs.declared.Fault.the-variants as Faults
 use Rattle.model.specs.declared.Answer.the-variants as Answers
 use Rattle.model.specs.Description.{between, isColumn, columnCount, inRange}
 use Rattle.model.specs.Tables.{Row, State, rowsOf, cell, nocell, ownNull, used, at}
-use Rattle.model.specs.Buffers.{Buffers, inside, stateOf}
+use Rattle.model.specs.Buffers.{Buffers, holding, inside, stateOf}
 use Rattle.model.specs.Listed.{whole, each, listed, columnsOnce}
 use Rattle.model.specs.Effect.{Rows, Effect, lowestEmpty, hasRoom}
 use Rattle.model.specs.Insert.{keyListed, insertFormed, listedNames, insertTests, newRow, inserted}
 use Rattle.model.specs.Run.{firstFault, left}
 use Rattle.model.proofs.Sound.{between-r, column-r}
 use Rattle.model.proofs.Border.{state-framed}
-use Rattle.cells.specs.Changed.{holding, keyPlace, listedRow, changeLevel, withRow}
+use Rattle.cells.specs.Changed.{keyPlace, listedRow, changeLevel, withRow}
 use Rattle.cells.specs.declared.layout.Part.{Part}
 use Rattle.cells.proofs.Cells.{state-path}
 use Rattle.asked.specs.declared.pairs.Rule.the-variants as Rules

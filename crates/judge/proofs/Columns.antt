@@ -19,10 +19,11 @@ use Rattle.model.specs.Description as Described
 use Rattle.model.specs.Description.{over, columnCount, isColumn, highOf, lowOf, inRange}
 use Rattle.model.specs.Tables.{Cell, Row, Tables, cell, nocell, same, place, at, lends}
 use Rattle.model.specs.Judge.{fits, cellRight}
+use Rattle.model.specs.Buffers.{rowsIn}
 use Rattle.keys.specs.declared.areas.Area.{Area}
 use Rattle.describe.specs.Facts.{Leveled}
 use Rattle.keys.specs.Facts.{hasKey, hasBit, Ranges, Orders}
-use Rattle.judge.specs.Facts.{tablesOf, Ready, InRow, Fitting, Between}
+use Rattle.judge.specs.Facts.{Ready, InRow, Fitting, Between}
 use Rattle.keys.proofs.Sets.{bit-and}
 use Rattle.judge.proofs.Places.{spot, place-found, at-found}
 
@@ -80,7 +81,7 @@ module _ (d : Description) (T : Tables) (r l : ℕ) (R : Row) (k v c key kc : �
 -- ---- rows by key
 module _ (d : Description) (vs cs ks : List ℕ) (a : Area) (R : Ready d vs cs ks a) where
   abbrev T : Tables
-  T = tablesOf d vs cs
+  T = rowsIn d vs cs
 
   -- a row with a key is the row of its key
   pub own-place : (l i v : ℕ) → l < d .levels → i < a.rows → T a.relation l i 1 .value ≡ v → v ≢ 0 → place a.rows (T a.relation l) v ≡ i

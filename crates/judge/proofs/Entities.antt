@@ -16,11 +16,11 @@ use Rattle.model.specs.declared.Description.{Description}
 use Rattle.model.specs.Description as Described
 use Rattle.model.specs.Description.{foreignOf, isColumn, isLevel}
 use Rattle.model.specs.Tables.{Cell, Tables, cell, nocell, norow, same, used, emptyRow, place, at}
-use Rattle.model.specs.Buffers.{inside}
+use Rattle.model.specs.Buffers.{inside, rowsIn}
 use Rattle.model.specs.Judge.{cellRight, referenceRight, rowRight}
-use Rattle.model.proofs.Border.{state-framed}
+use Rattle.model.proofs.Border.{rows-outside}
 use Rattle.keys.specs.declared.areas.Area.{Area}
-use Rattle.judge.specs.Facts.{tablesOf, namesRight, rightRow, Ready, InRow, Refers}
+use Rattle.judge.specs.Facts.{namesRight, rightRow, Ready, InRow, Refers}
 use Rattle.judge.proofs.Places.{key-is, at-found, at-none, key-class, key-value}
 use Rattle.judge.proofs.Columns.{fits-out, cell-null, cell-unfit, own-place, key-cell, stood-cell}
 
@@ -29,12 +29,12 @@ suc-pred f n = omega arith
 
 module _ (d : Description) (vs cs ks : List ℕ) (a : Area) (R : Ready d vs cs ks a) where
   abbrev T : Tables
-  T = tablesOf d vs cs
+  T = rowsIn d vs cs
 
   -- ---- a reference
   outside : (l i k : ℕ) → d .levels ≤ l → T a.relation l i k ≡ nocell
-  unfolding tablesOf inside isLevel
-  outside l i k h = state-framed d _ .outside a.relation l i k (cases (isColumn d a.relation k) (λ t. rw (t, le-ltb l (d .levels) h)) (λ t. rw t))
+  unfolding inside isLevel
+  outside l i k h = rows-outside d vs cs a.relation l i k (cases (isColumn d a.relation k) (λ t. rw (t, le-ltb l (d .levels) h)) (λ t. rw t))
 
   module _ (l v c : ℕ) (h : l < d .levels) (z : v ≢ 0) where
     none-out : d .levels ≤ c → at d T a.relation c v ≡ norow
@@ -113,8 +113,8 @@ module _ (d : Description) (vs cs ks : List ℕ) (a : Area) (R : Ready d vs cs k
 
   -- ---- the reference of a row
   column-zero : (l i : ℕ) → T a.relation l i 0 ≡ nocell
-  unfolding tablesOf inside isColumn Described.between
-  column-zero l i = state-framed d _ .outside a.relation l i 0 refl
+  unfolding inside isColumn Described.between
+  column-zero l i = rows-outside d vs cs a.relation l i 0 refl
 
   module _ (l i row : ℕ) (b : Area) (G : Refers d vs cs ks a b) (h : l < d .levels) (g : i < a.rows) (s : row ≡ a.start + (l * a.rows + i) * a.cols) where
     pub names-zero : a.foreign ≡ 0 → true ≡ referenceRight d T a.relation l (T a.relation l i (foreignOf d a.relation))

@@ -19,13 +19,13 @@ use Rattle.model.specs.declared.Description.{Description}
 use Rattle.model.specs.declared.Verdict.the-variants as Verdicts
 use Rattle.model.specs.Description.{columnCount, rowCount, refersOf, startOf, totalOf, sound}
 use Rattle.model.specs.Tables.{Cell, Tables, cell, used, place}
-use Rattle.model.specs.Buffers.{Buffers, fitting, positionOf, stateOf}
+use Rattle.model.specs.Buffers.{Buffers, fitting, positionOf, rowsIn, stateOf}
 use Rattle.model.specs.Judge.{rowRight, legal, judge}
 use Rattle.model.proofs.Border.{Inside, inside-shown}
 use Rattle.keys.specs.declared.areas.Area.{Area}
 use Rattle.describe.specs.Facts.{Sane}
 use Rattle.keys.specs.Facts.{hasKey, firstOf, Starting, areaOf, Keyed, distinctKeys}
-use Rattle.judge.specs.Facts.{tablesOf, relationRight, tablesRight, Ready, Refers, Laid}
+use Rattle.judge.specs.Facts.{relationRight, tablesRight, Ready, Refers, Laid}
 use Rattle.describe.proofs.Sizes.{refers-of}
 use Rattle.keys.proofs.Starts.{Standing, standing, keys-room, cells-room}
 use Rattle.keys.proofs.Sought.{first-none}
@@ -39,15 +39,15 @@ module _ (d : Description) (vs cs : List ℕ) (r : ℕ) (h : r < d .relations) w
   position-is l i k = sym (add-assoc (startOf d (suc r)) ((l * rowCount d (suc r) + i) * columnCount d (suc r)) k)
 
   pub cells-of : (l i k : ℕ) → l < d .levels → i < rowCount d (suc r) → k < columnCount d (suc r)
-      → tablesOf d vs cs (suc r) l i (suc k)
+      → rowsIn d vs cs (suc r) l i (suc k)
       ≡ cell (getD vs (startOf d (suc r) + (l * rowCount d (suc r) + i) * columnCount d (suc r) + k) 0) (getD cs (startOf d (suc r) + (l * rowCount d (suc r) + i) * columnCount d (suc r) + k) 0)
-  unfolding tablesOf stateOf
+  unfolding rowsIn
   cells-of l i k hl hi hk =
       let inner : Inside d (suc r) l i (suc k) = record { relation = omega arith; level = hl; row = hi; least = omega arith; column = hk } in
       rw (inside-shown d (suc r) l i (suc k) inner, position-is l i k)
 
   module _ (ks : List ℕ) (S : Sane d) (K : Keyed d vs (d .relations) ks) where
-    pub key-of : (l i : ℕ) → l < d .levels → i < rowCount d (suc r) → getD ks (startOf d (suc r) + l * rowCount d (suc r) + i) 0 ≡ tablesOf d vs cs (suc r) l i 1 .value
+    pub key-of : (l i : ℕ) → l < d .levels → i < rowCount d (suc r) → getD ks (startOf d (suc r) + l * rowCount d (suc r) + i) 0 ≡ rowsIn d vs cs (suc r) l i 1 .value
     key-of l i hl hi =
         let j = l * rowCount d (suc r) + i in
         let e : startOf d (suc r) + l * rowCount d (suc r) + i ≡ startOf d (suc r) + j = omega arith in
@@ -80,7 +80,7 @@ module _ (d : Description) (T : Tables) (ks : List ℕ) (r l from : ℕ) (named 
 
 module _ (d : Description) (vs cs ks : List ℕ) (S : Sane d) (K : Keyed d vs (d .relations) ks) where
   abbrev T : Tables
-  T = tablesOf d vs cs
+  T = rowsIn d vs cs
 
   distinct-right : tablesRight d T ≡ true → distinctKeys d ks ≡ true
   unfolding distinctKeys tablesRight relationRight
@@ -168,8 +168,8 @@ module _ (d : Description) (vs cs ks ss : List ℕ) (L : Laid d vs cs ks ss) (r 
 
 -- ---- the whole
 
-pub tables-legal : (d : Description) (vs cs : List ℕ) → tablesRight d (tablesOf d vs cs) ≡ legal d (stateOf d (record { values = vs; classes = cs }))
-unfolding tablesRight relationRight tablesOf legal
+pub tables-legal : (d : Description) (vs cs : List ℕ) → tablesRight d (rowsIn d vs cs) ≡ legal d (stateOf d (record { values = vs; classes = cs }))
+unfolding tablesRight relationRight stateOf legal
 tables-legal d vs cs = refl
 
 module _ (d : Description) (b : Buffers) {s : Bool} (x : s ≡ sound d) where

@@ -16,9 +16,10 @@ use Rattle.bounded.proofs.Cases.{cases}
 use Rattle.bounded.proofs.First.{first-holds, first-cong}
 use Rattle.model.specs.declared.Description.{Description}
 use Rattle.model.specs.Tables.{Cell, Tables, cell, norow, same, place, seek, at, lends}
+use Rattle.model.specs.Buffers.{rowsIn}
 use Rattle.keys.specs.declared.areas.Area.{Area}
 use Rattle.keys.specs.Facts.{hasKey}
-use Rattle.judge.specs.Facts.{tablesOf, Ready, lenderOf, Known}
+use Rattle.judge.specs.Facts.{Ready, lenderOf, Known}
 
 digit-lt : {a b n m : ℕ} → a < n → b < m → a * m + b < n * m
 digit-lt {a} {b} {n} {m} h k = omega (arith, mul-le-mul-right m h)
@@ -32,7 +33,7 @@ pub record Lent (d : Description) (T : Tables) (a : Area) (l v c k p : ℕ) : Ty
 
 module _ (d : Description) (vs cs ks : List ℕ) (a : Area) (R : Ready d vs cs ks a) where
   abbrev T : Tables
-  T = tablesOf d vs cs
+  T = rowsIn d vs cs
 
   -- the keys of a level
   pub block : (l : ℕ) → l < d .levels → a.start + l * a.rows + a.rows ≤ 8192

@@ -11,16 +11,12 @@ use Rattle.bounded.specs.Tests.{if_then_else_}
 use Rattle.bounded.specs.Bounded.{allBelow}
 use Rattle.model.specs.declared.Description.{Description}
 use Rattle.model.specs.Description.{over, columnCount, rowCount, foreignOf, refersOf}
-use Rattle.model.specs.Tables.{Cell, Row, Tables, cell, same, place, at, rowsOf}
-use Rattle.model.specs.Buffers.{stateOf}
+use Rattle.model.specs.Tables.{Cell, Row, Tables, cell, same, place, at}
+use Rattle.model.specs.Buffers.{rowsIn}
 use Rattle.model.specs.Judge.{fits, cellRight, referenceRight, rowRight}
 use Rattle.describe.specs.Facts.{Leveled}
 use Rattle.keys.specs.declared.areas.Area.{Area}
 use Rattle.keys.specs.Facts.{Once, hasBit, areaOf}
-
--- the tables that two buffers hold
-unfoldable pub tablesOf : Description → List ℕ → List ℕ → Tables
-tablesOf d vs cs = rowsOf (stateOf d (record { values = vs; classes = cs }))
 
 -- `referenceRight` of a reference to relation t
 unfoldable pub namesRight : Description → Tables → ℕ → ℕ → Cell → Bool
@@ -67,9 +63,9 @@ pub record Ready (d : Description) (vs cs ks : List ℕ) (a : Area) : Type 0 whe
   pub classes : a .start + d .levels * a .rows * a .cols ≤ length cs
   pub keys : a .start + d .levels * a .rows ≤ 8192
   pub cells : (l i k : ℕ) → l < d .levels → i < a .rows → k < a .cols
-      → tablesOf d vs cs (a .relation) l i (suc k)
+      → rowsIn d vs cs (a .relation) l i (suc k)
       ≡ cell (getD vs (a .start + (l * a .rows + i) * a .cols + k) 0) (getD cs (a .start + (l * a .rows + i) * a .cols + k) 0)
-  pub key : (l i : ℕ) → l < d .levels → i < a .rows → getD ks (a .start + l * a .rows + i) 0 ≡ tablesOf d vs cs (a .relation) l i 1 .value
+  pub key : (l i : ℕ) → l < d .levels → i < a .rows → getD ks (a .start + l * a .rows + i) 0 ≡ rowsIn d vs cs (a .relation) l i 1 .value
   pub once : (l v : ℕ) → l < d .levels → v ≢ 0 → Once ks (a .start + l * a .rows) (a .rows) v
 
 -- the relation b that a's foreign key refers to

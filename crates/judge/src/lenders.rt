@@ -9,8 +9,9 @@ ghost use Prim.Native.Nat.{suc, _<_, _≤_};
 ghost use Rattle.bounded.specs.Bounded.{allBelow};
 ghost use Rattle.model.specs.Tables.{cell, nocell, same, at as rowAt, lends, emptyRow};
 ghost use Rattle.model.specs.Judge.{cellRight};
+ghost use Rattle.model.specs.Buffers.{rowsIn};
 ghost use Rattle.keys.specs.Facts.{Ranges};
-ghost use Rattle.judge.specs.Facts.{tablesOf, Ready, Asked, lenderOf, Known, InRow, Spot, Fitting, Between};
+ghost use Rattle.judge.specs.Facts.{Ready, Asked, lenderOf, Known, InRow, Spot, Fitting, Between};
 
 // Where the row of entity (`key`, `kc`) at a level starts, or 65535.
 fn lender(
@@ -25,7 +26,7 @@ fn lender(
 ) -> usize
     requires { ⌜ Ready d (now values) (now classes) (now keys) area ⌝ }
     requires { ⌜ Asked d level key ⌝ }
-    ensures { λ r. ⌜ (r ≡ lenderOf (tablesOf d (now (values .entry)) (now (classes .entry))) area key kc level) × (r ≤ 65535) ⌝ }
+    ensures { λ r. ⌜ (r ≡ lenderOf (rowsIn d (now (values .entry)) (now (classes .entry))) area key kc level) × (r ≤ 65535) ⌝ }
 {
     let rows = area.rows;
     let from = area.start + level * rows;
@@ -53,8 +54,8 @@ fn cached(
     level: usize,
 ) -> usize
     requires { ⌜ Ready d (now values) (now classes) (now keys) area × Asked d level key ⌝ }
-    requires { ⌜ Known d (tablesOf d (now values) (now classes)) area key kc (now cache) ⌝ }
-    ensures { λ r. ⌜ (r ≡ lenderOf (tablesOf d (now (values .entry)) (now (classes .entry))) area key kc level) × Known d (tablesOf d (now (values .entry)) (now (classes .entry))) area key kc (now (cache .exit)) ⌝ }
+    requires { ⌜ Known d (rowsIn d (now values) (now classes)) area key kc (now cache) ⌝ }
+    ensures { λ r. ⌜ (r ≡ lenderOf (rowsIn d (now (values .entry)) (now (classes .entry))) area key kc level) × Known d (rowsIn d (now (values .entry)) (now (classes .entry))) area key kc (now (cache .exit)) ⌝ }
 {
     let known = cache[level];
     if known != 65534 {
@@ -80,8 +81,8 @@ fn lent(
     c: u8,
 ) -> bool
     requires { ⌜ Ready d (now values) (now classes) (now keys) area × Asked d c key ⌝ }
-    requires { ⌜ (p ≡ lenderOf (tablesOf d (now values) (now classes)) area key kc c) × (k < area .cols) ⌝ }
-    ensures { λ r. ⌜ r ≡ same (cell v c) (lends (rowAt d (tablesOf d (now (values .entry)) (now (classes .entry))) (area .relation) c key) (cell key kc) (suc k) c) ⌝ }
+    requires { ⌜ (p ≡ lenderOf (rowsIn d (now values) (now classes)) area key kc c) × (k < area .cols) ⌝ }
+    ensures { λ r. ⌜ r ≡ same (cell v c) (lends (rowAt d (rowsIn d (now (values .entry)) (now (classes .entry))) (area .relation) c key) (cell key kc) (suc k) c) ⌝ }
 {
     if p == 65535 {
         return v == 0;
@@ -110,8 +111,8 @@ fn cell(
     kc: u8,
 ) -> bool
     requires { ⌜ Ready d (now values) (now classes) (now keys) area × InRow d (now values) (now classes) area level i row key kc × (k < area .cols) ⌝ }
-    requires { ⌜ Fitting d (area .relation) level (suc k) kc word × Known d (tablesOf d (now values) (now classes)) area key kc (now cache) ⌝ }
-    ensures { λ r. ⌜ (r ≡ cellRight d (tablesOf d (now (values .entry)) (now (classes .entry))) (area .relation) level (tablesOf d (now (values .entry)) (now (classes .entry)) (area .relation) level i) (suc k)) × Known d (tablesOf d (now (values .entry)) (now (classes .entry))) area key kc (now (cache .exit)) ⌝ }
+    requires { ⌜ Fitting d (area .relation) level (suc k) kc word × Known d (rowsIn d (now values) (now classes)) area key kc (now cache) ⌝ }
+    ensures { λ r. ⌜ (r ≡ cellRight d (rowsIn d (now (values .entry)) (now (classes .entry))) (area .relation) level (rowsIn d (now (values .entry)) (now (classes .entry)) (area .relation) level i) (suc k)) × Known d (rowsIn d (now (values .entry)) (now (classes .entry))) area key kc (now (cache .exit)) ⌝ }
 {
     let place = row + k;
     let c = classes[place];
@@ -147,7 +148,7 @@ pub(crate) fn cells(
 ) -> bool
     requires { ⌜ Ready d (now values) (now classes) (now keys) area × InRow d (now values) (now classes) area level i row key kc ⌝ }
     requires { ⌜ Ranges d 81 (now ranges) × Between d level kc word ⌝ }
-    ensures { λ r. ⌜ r ≡ allBelow (area .cols) (λ k. cellRight d (tablesOf d (now (values .entry)) (now (classes .entry))) (area .relation) level (tablesOf d (now (values .entry)) (now (classes .entry)) (area .relation) level i) (suc k)) ⌝ }
+    ensures { λ r. ⌜ r ≡ allBelow (area .cols) (λ k. cellRight d (rowsIn d (now (values .entry)) (now (classes .entry))) (area .relation) level (rowsIn d (now (values .entry)) (now (classes .entry)) (area .relation) level i) (suc k)) ⌝ }
 {
     let column = 9 * area.relation + 1;
     let cols = area.cols;
@@ -191,7 +192,7 @@ fn blank(
 ) -> bool
     requires { ⌜ Ready d (now values) (now classes) (now keys) area × (k < area .cols) ⌝ }
     requires { ⌜ Spot d area level i row ⌝ }
-    ensures { λ r. ⌜ r ≡ same (tablesOf d (now (values .entry)) (now (classes .entry)) (area .relation) level i (suc k)) nocell ⌝ }
+    ensures { λ r. ⌜ r ≡ same (rowsIn d (now (values .entry)) (now (classes .entry)) (area .relation) level i (suc k)) nocell ⌝ }
 {
     let place = row + k;
     if values[place] != 0 {
@@ -213,7 +214,7 @@ pub(crate) fn empty(
 ) -> bool
     requires { ⌜ Ready d (now values) (now classes) (now keys) area ⌝ }
     requires { ⌜ Spot d area level i row ⌝ }
-    ensures { λ r. ⌜ r ≡ emptyRow d (area .relation) (tablesOf d (now (values .entry)) (now (classes .entry)) (area .relation) level i) ⌝ }
+    ensures { λ r. ⌜ r ≡ emptyRow d (area .relation) (rowsIn d (now (values .entry)) (now (classes .entry)) (area .relation) level i) ⌝ }
 {
     let cols = area.cols;
     let mut k = 0;

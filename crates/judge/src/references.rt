@@ -8,7 +8,8 @@ ghost use Prim.Native.Nat.{_≤_};
 ghost use Rattle.model.specs.Tables.{cell, place};
 ghost use Rattle.model.specs.Description.{foreignOf};
 ghost use Rattle.model.specs.Judge.{referenceRight};
-ghost use Rattle.judge.specs.Facts.{tablesOf, namesRight, Ready, Asked, Spot, Refers};
+ghost use Rattle.model.specs.Buffers.{rowsIn};
+ghost use Rattle.judge.specs.Facts.{namesRight, Ready, Asked, Spot, Refers};
 
 // The row with a key at a level, or the number of rows.
 fn sought(
@@ -22,7 +23,7 @@ fn sought(
 ) -> usize
     requires { ⌜ Ready d (now values) (now classes) (now keys) area ⌝ }
     requires { ⌜ Asked d level key ⌝ }
-    ensures { λ r. ⌜ (r ≡ place (area .rows) (tablesOf d (now (values .entry)) (now (classes .entry)) (area .relation) level) key) × (r ≤ area .rows) ⌝ }
+    ensures { λ r. ⌜ (r ≡ place (area .rows) (rowsIn d (now (values .entry)) (now (classes .entry)) (area .relation) level) key) × (r ≤ area .rows) ⌝ }
 {
     let rows = area.rows;
     let from = area.start + level * rows;
@@ -42,7 +43,7 @@ fn names(
 ) -> bool
     requires { ⌜ Ready d (now values) (now classes) (now keys) area ⌝ }
     requires { ⌜ Asked d level v ⌝ }
-    ensures { λ r. ⌜ r ≡ namesRight d (tablesOf d (now (values .entry)) (now (classes .entry))) (area .relation) level (cell v c) ⌝ }
+    ensures { λ r. ⌜ r ≡ namesRight d (rowsIn d (now (values .entry)) (now (classes .entry))) (area .relation) level (cell v c) ⌝ }
 {
     let e = c as usize;
     let levels = area.levels;
@@ -80,7 +81,7 @@ pub(crate) fn reference(
 ) -> bool
     requires { ⌜ Ready d (now values) (now classes) (now keys) area × Spot d area level i row ⌝ }
     requires { ⌜ Refers d (now values) (now classes) (now keys) area target ⌝ }
-    ensures { λ r. ⌜ r ≡ referenceRight d (tablesOf d (now (values .entry)) (now (classes .entry))) (area .relation) level (tablesOf d (now (values .entry)) (now (classes .entry)) (area .relation) level i (foreignOf d (area .relation))) ⌝ }
+    ensures { λ r. ⌜ r ≡ referenceRight d (rowsIn d (now (values .entry)) (now (classes .entry))) (area .relation) level (rowsIn d (now (values .entry)) (now (classes .entry)) (area .relation) level i (foreignOf d (area .relation))) ⌝ }
 {
     let foreign = area.foreign;
     if foreign == 0 {

@@ -11,8 +11,9 @@ ghost use mathlib.Core.Path.{_≡_};
 ghost use Prim.Native.Nat.{suc, _<_};
 ghost use Rattle.bounded.specs.Bounded.{allBelow};
 ghost use Rattle.model.specs.Judge.{rowRight};
+ghost use Rattle.model.specs.Buffers.{rowsIn};
 ghost use Rattle.keys.specs.Facts.{Ranges, Orders};
-ghost use Rattle.judge.specs.Facts.{tablesOf, rightRow, Ready, InRow, Refers, Laid, relationRight, tablesRight};
+ghost use Rattle.judge.specs.Facts.{rightRow, Ready, InRow, Refers, Laid, relationRight, tablesRight};
 
 // A row with a key.
 fn keyed(
@@ -33,7 +34,7 @@ fn keyed(
 ) -> bool
     requires { ⌜ Ready d (now values) (now classes) (now keys) area × InRow d (now values) (now classes) area level i row key kc ⌝ }
     requires { ⌜ Ranges d 81 (now ranges) × Orders d (now below) (now above) × Refers d (now values) (now classes) (now keys) area target ⌝ }
-    ensures { λ r. ⌜ r ≡ rightRow d (tablesOf d (now (values .entry)) (now (classes .entry))) (area .relation) level (tablesOf d (now (values .entry)) (now (classes .entry)) (area .relation) level i) ⌝ }
+    ensures { λ r. ⌜ r ≡ rightRow d (rowsIn d (now (values .entry)) (now (classes .entry))) (area .relation) level (rowsIn d (now (values .entry)) (now (classes .entry)) (area .relation) level i) ⌝ }
 {
     if 16 <= kc {
         return false;
@@ -74,7 +75,7 @@ fn row(
 ) -> bool
     requires { ⌜ Ready d (now values) (now classes) (now keys) area × (level < d .levels) × (i < area .rows) ⌝ }
     requires { ⌜ Ranges d 81 (now ranges) × Orders d (now below) (now above) × Refers d (now values) (now classes) (now keys) area target ⌝ }
-    ensures { λ r. ⌜ r ≡ rowRight d (tablesOf d (now (values .entry)) (now (classes .entry))) (area .relation) level i ⌝ }
+    ensures { λ r. ⌜ r ≡ rowRight d (rowsIn d (now (values .entry)) (now (classes .entry))) (area .relation) level i ⌝ }
 {
     let row = at(area, level, i);
     let key = values[row];
@@ -115,7 +116,7 @@ fn rows(
 ) -> bool
     requires { ⌜ Ready d (now values) (now classes) (now keys) area × (level < d .levels) ⌝ }
     requires { ⌜ Ranges d 81 (now ranges) × Orders d (now below) (now above) × Refers d (now values) (now classes) (now keys) area target ⌝ }
-    ensures { λ r. ⌜ r ≡ allBelow (area .rows) (λ i. rowRight d (tablesOf d (now (values .entry)) (now (classes .entry))) (area .relation) level i) ⌝ }
+    ensures { λ r. ⌜ r ≡ allBelow (area .rows) (λ i. rowRight d (rowsIn d (now (values .entry)) (now (classes .entry))) (area .relation) level i) ⌝ }
 {
     let rows = area.rows;
     let mut i = 0;
@@ -154,7 +155,7 @@ fn levels(
 ) -> bool
     requires { ⌜ Ready d (now values) (now classes) (now keys) area ⌝ }
     requires { ⌜ Ranges d 81 (now ranges) × Orders d (now below) (now above) × Refers d (now values) (now classes) (now keys) area target ⌝ }
-    ensures { λ r. ⌜ r ≡ allBelow (area .levels) (λ l. allBelow (area .rows) (λ i. rowRight d (tablesOf d (now (values .entry)) (now (classes .entry))) (area .relation) l i)) ⌝ }
+    ensures { λ r. ⌜ r ≡ allBelow (area .levels) (λ l. allBelow (area .rows) (λ i. rowRight d (rowsIn d (now (values .entry)) (now (classes .entry))) (area .relation) l i)) ⌝ }
 {
     let count = area.levels;
     let mut level = 0;
@@ -192,7 +193,7 @@ fn relation(
 ) -> bool
     requires { ⌜ Laid d (now values) (now classes) (now keys) starts × (r < d .relations) ⌝ }
     requires { ⌜ Ranges d 81 (now ranges) × Orders d (now below) (now above) ⌝ }
-    ensures { λ b. ⌜ b ≡ relationRight d (tablesOf d (now (values .entry)) (now (classes .entry))) (suc r) ⌝ }
+    ensures { λ b. ⌜ b ≡ relationRight d (rowsIn d (now (values .entry)) (now (classes .entry))) (suc r) ⌝ }
 {
     let area = laid(d, starts, r + 1);
     let refers = wide(d.refers[r + 1]);
@@ -213,7 +214,7 @@ pub(crate) fn tables(
 ) -> bool
     requires { ⌜ Laid d (now values) (now classes) (now keys) starts ⌝ }
     requires { ⌜ Ranges d 81 (now ranges) × Orders d (now below) (now above) ⌝ }
-    ensures { λ b. ⌜ b ≡ tablesRight d (tablesOf d (now (values .entry)) (now (classes .entry))) ⌝ }
+    ensures { λ b. ⌜ b ≡ tablesRight d (rowsIn d (now (values .entry)) (now (classes .entry))) ⌝ }
 {
     let n = wide(d.relations);
     let mut r = 0;

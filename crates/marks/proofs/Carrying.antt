@@ -18,7 +18,7 @@ use Rattle.bounded.proofs.Reflection.{of-true}
 use Rattle.model.specs.declared.Description.{Description}
 use Rattle.model.specs.Description.{between, over, isColumn, columnCount, refersOf}
 use Rattle.model.specs.Tables.{Row, Tables, norow, used, Level, State, rowsOf, place, seek, at}
-use Rattle.model.specs.Buffers.{inside, stateOf}
+use Rattle.model.specs.Buffers.{holding, inside, stateOf}
 use Rattle.model.specs.Legal.{Legal}
 use Rattle.model.specs.Conditions.{met}
 use Rattle.model.specs.Effect.{Effect, Above, goneAt, reach}
@@ -28,7 +28,7 @@ use Rattle.theory.proofs.Described.{sound-laws}
 use Rattle.theory.proofs.Judged.{judged}
 use Rattle.theory.proofs.Reach.{Side, at-c, over-c, off-c, side}
 use Rattle.cells.specs.declared.layout.Part.{Part}
-use Rattle.cells.specs.Changed.{holding, changeLevel}
+use Rattle.cells.specs.Changed.{changeLevel}
 use Rattle.cells.proofs.Cells.{state-path}
 use Rattle.cells.proofs.Changes.{change-here, change-other}
 use Rattle.conditions.specs.Facts.{Marked, Counted, metAt}

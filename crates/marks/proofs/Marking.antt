@@ -7,8 +7,8 @@ use mathlib.Core.List.{List}
 use lib.ListN.{getD}
 use Rattle.model.specs.declared.Description.{Description}
 use Rattle.model.specs.Tables.{Row, State}
-use Rattle.model.specs.Buffers.{stateOf}
-use Rattle.cells.specs.Changed.{holding, withRow, changeLevel}
+use Rattle.model.specs.Buffers.{holding, stateOf}
+use Rattle.cells.specs.Changed.{withRow, changeLevel}
 use Rattle.cells.proofs.Changes.{change-same}
 use Rattle.cells.proofs.Written.{row-same}
 use Rattle.above.specs.Facts.{withRows}

@@ -19,7 +19,7 @@ use Rattle.bounded.proofs.Reflection.{is-true, of-true, and-r, eqb-r, leb-r, lt
 use Rattle.model.specs.declared.Description.{Description}
 use Rattle.model.specs.Description.{between, isLevel, isRelation, ofRelation, columnCount, rowCount, isColumn, sizeOf, startOf, totalOf}
 use Rattle.model.specs.Tables.{Cell, cell, nocell, State}
-use Rattle.model.specs.Buffers.{Buffers, fitting, inside, positionOf, stateOf, inOrder, buffersOf}
+use Rattle.model.specs.Buffers.{Buffers, fitting, inside, positionOf, rowsIn, stateOf, inOrder, buffersOf}
 
 -- ---- where parts begin
 
@@ -157,17 +157,21 @@ module _ (d : Description) (f : ℕ → ℕ → ℕ → ℕ → ℕ) where
 
 -- ---- both ways
 
+pub rows-outside : (d : Description) (values classes : List ℕ) (r l i k : ℕ) → inside d r l i k ≡ false → rowsIn d values classes r l i k ≡ nocell
+unfolding rowsIn
+rows-outside d values classes r l i k e = rw e
+
 -- outside the description tables are empty
 pub record Framed (d : Description) (S : State) : Type 0 where
   pub outside : (r l i k : ℕ) → inside d r l i k ≡ false → S l .rows r i k ≡ nocell
 
 pub state-framed : (d : Description) (b : Buffers) → Framed d (stateOf d b)
 unfolding stateOf
-state-framed d b = record { outside = λ r l i k e. rw e }
+state-framed d b = record { outside = rows-outside d (b .values) (b .classes) }
 
 state-inside : (d : Description) (b : Buffers) (r l i k : ℕ) → Inside d r l i k
     → stateOf d b l .rows r i k ≡ cell (getD (b .values) (positionOf d r l i k) 0) (getD (b .classes) (positionOf d r l i k) 0)
-unfolding stateOf
+unfolding stateOf rowsIn
 state-inside d b r l i k h = rw (inside-shown d r l i k h)
 
 pub buffers-state : (d : Description) (b : Buffers) → fitting d b ≡ true → buffersOf d (stateOf d b) ≡ b

@@ -58,8 +58,8 @@ joined [] = []
 joined (xs ∷ xss) = xs ++ joined xss
 
 -- the cells in their order, level by level
-abbrev pub holding : List (List Cell) → Buffers
-holding levels = record { values = map (λ (x : Cell). x .value) (joined levels); classes = map (λ (x : Cell). x .class) (joined levels) }
+abbrev pub laidOut : List (List Cell) → Buffers
+laidOut levels = record { values = map (λ (x : Cell). x .value) (joined levels); classes = map (λ (x : Cell). x .class) (joined levels) }
 
 -- ---- runs
 
@@ -78,7 +78,7 @@ abbrev pub told : Outcome → Told
 told o = record { number = answerNumber (o .reply .answer); count = countOf (o .reply .answer); tables = o .buffers }
 
 abbrev pub tells : ℕ → ℕ → List (List Cell) → Told
-tells number count levels = record { number = number; count = count; tables = holding levels }
+tells number count levels = record { number = number; count = count; tables = laidOut levels }
 
 -- the claim of a list: in each of its pairs what was computed is what was expected
 abbrev pub Each : {A : Type 0} → List (A × A) → Type 0

@@ -10,11 +10,11 @@ use Rattle.model.specs.Numbers.{answerNumber}
 use Rattle.model.specs.Tables.{Cell, cell, nocell}
 use Rattle.model.specs.Run.{Request, run}
 use Rattle.model.proofs.Computed.{computed}
-use Rattle.model.proofs.Build.{request, insertAt, deleteAt, updateAt, uplevelAt, selectAt, key, holding, told, tells, Each}
+use Rattle.model.proofs.Build.{request, insertAt, deleteAt, updateAt, uplevelAt, selectAt, key, laidOut, told, tells, Each}
 use Rattle.model.proofs.Worked.{described, five, one, no₁, two, no₂, levels, x₀, x₁, x₂, X, row₁, row₈, ref}
 
 abbrev answered : Description → List (List Cell) → Request → ℕ
-answered d b q = answerNumber (run d (holding b) q .reply .answer)
+answered d b q = answerNumber (run d (laidOut b) q .reply .answer)
 
 -- ---- the order
 
@@ -161,10 +161,10 @@ lists-held = (refl, (refl, (refl, (refl, (refl, (refl, (refl, (refl, tt))))))))
 
 -- ---- "Each refusal has count 0 and changes no buffer."
 pub refusal-changes-nothing : Each (
-    (told (run five (holding illegal) (deleteAt 0 1 [])), tells 3 0 illegal)
-    ∷ (told (run five (holding longer) (deleteAt 0 1 [])), tells 2 0 longer)
-    ∷ (told (run unsound (holding longer) (deleteAt 0 1 [])), tells 1 0 longer)
-    ∷ (told (run five (holding several) (uplevelAt 4 1 7 255 [])), tells 8 0 several)
+    (told (run five (laidOut illegal) (deleteAt 0 1 [])), tells 3 0 illegal)
+    ∷ (told (run five (laidOut longer) (deleteAt 0 1 [])), tells 2 0 longer)
+    ∷ (told (run unsound (laidOut longer) (deleteAt 0 1 [])), tells 1 0 longer)
+    ∷ (told (run five (laidOut several) (uplevelAt 4 1 7 255 [])), tells 8 0 several)
     ∷ [])
 unfolding computed
 refusal-changes-nothing = (refl, (refl, (refl, (refl, tt))))

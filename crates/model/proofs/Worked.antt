@@ -8,7 +8,7 @@ use Rattle.model.specs.declared.Description.{Description}
 use Rattle.model.specs.Tables.{Cell, cell, nocell}
 use Rattle.model.specs.Run.{Request, run}
 use Rattle.model.proofs.Computed.{computed}
-use Rattle.model.proofs.Build.{insertAt, deleteAt, updateAt, uplevelAt, key, holding, last, Told, told, tells, Each}
+use Rattle.model.proofs.Build.{insertAt, deleteAt, updateAt, uplevelAt, key, laidOut, last, Told, told, tells, Each}
 
 -- five levels; "Relations have two rows a level. Relation 1: three columns", "relation 2 (key, reference to 1 ..)"
 abbrev pub described : List ℕ → List ℕ → List ℕ → Description
@@ -88,7 +88,7 @@ ref = two (cell 50 1) (cell 7 1)
 
 unfoldable pub worked : List (Told × Told)
 worked =
-    let start = holding (X no₁ no₂ no₂) in
+    let start = laidOut (X no₁ no₂ no₂) in
     -- "P1 UPLEVEL at 3, key 7, column 2 FROM 1, 3 FROM 2: row 7/0 21/1 31/2."
     (told (run five start p₁), tells 0 1 (X (one (cell 7 0) (cell 21 1) (cell 31 2)) no₂ no₂))
     -- "P2 then UPDATE at 3, column 3 = 32: 7/0 21/1 32/3."
@@ -121,15 +121,15 @@ worked =
     -- "P10 X, UPLEVEL at 1, 2 FROM 2: 5."
     ∷ (told (run five start (uplevelAt 1 1 7 255 (2 ∷ 2 ∷ []))), tells 5 0 (X no₁ no₂ no₂))
     -- "P11 P1 plus relation 2 .., level 1: 50/1 7/1. DELETE key 7 from relation 1 at 1: 12; at 0: relation 1 empty, relation 2 is 50/1 0/1."
-    ∷ (told (run five (holding (X row₁ ref no₂)) (deleteAt 1 1 (key 7))), tells 12 0 (X row₁ ref no₂))
+    ∷ (told (run five (laidOut (X row₁ ref no₂)) (deleteAt 1 1 (key 7))), tells 12 0 (X row₁ ref no₂))
     ∷ (
-      told (run five (holding (X row₁ ref no₂)) (deleteAt 0 1 (key 7))),
+      told (run five (laidOut (X row₁ ref no₂)) (deleteAt 0 1 (key 7))),
       tells 0 1 (levels no₁ no₁ no₁ no₁ (two (cell 50 1) (cell 0 1)) no₂),
     )
     -- "P12 same, UPLEVEL of 50 at 3, 2 FROM 1: 50/1 7/1. With P8's row at level 3 in place of P1's: 50/1 0/3. With none: 11."
-    ∷ (told (run five (holding (X row₁ ref no₂)) p₁₂), tells 0 1 (X row₁ ref (two (cell 50 1) (cell 7 1))))
-    ∷ (told (run five (holding (X row₈ ref no₂)) p₁₂), tells 0 1 (X row₈ ref (two (cell 50 1) (cell 0 3))))
-    ∷ (told (run five (holding (X no₁ ref no₂)) p₁₂), tells 11 0 (X no₁ ref no₂))
+    ∷ (told (run five (laidOut (X row₁ ref no₂)) p₁₂), tells 0 1 (X row₁ ref (two (cell 50 1) (cell 7 1))))
+    ∷ (told (run five (laidOut (X row₈ ref no₂)) p₁₂), tells 0 1 (X row₈ ref (two (cell 50 1) (cell 0 3))))
+    ∷ (told (run five (laidOut (X no₁ ref no₂)) p₁₂), tells 11 0 (X no₁ ref no₂))
     ∷ []
 
 pub P1-to-P12 : Each worked

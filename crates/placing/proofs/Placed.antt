@@ -13,12 +13,12 @@ use Rattle.bounded.proofs.Reflection.{is-true, of-true, and-r, eqb-r}
 use Rattle.model.specs.declared.Description.{Description}
 use Rattle.model.specs.Description.{isLevel, isRelation, columnCount, rowCount, totalOf, sound}
 use Rattle.model.specs.Tables.{cell, State}
-use Rattle.model.specs.Buffers.{Buffers, fitting, stateOf, buffersOf}
+use Rattle.model.specs.Buffers.{Buffers, holding, fitting, stateOf, buffersOf}
 use Rattle.model.specs.Effect.{lowestEmpty, hasRoom}
 use Rattle.model.proofs.Border.{buffers-state}
 use Rattle.cells.specs.declared.layout.Part.{Part}
 use Rattle.cells.specs.Layout.{Laid, Lent, InLevel}
-use Rattle.cells.specs.Changed.{holding, listedRow, withRow, changeLevel}
+use Rattle.cells.specs.Changed.{listedRow, withRow, changeLevel}
 use Rattle.cells.proofs.Written.{row-as}
 use Rattle.change.specs.Facts.{Filled}
 use Rattle.cells.proofs.Counts.{in-level}

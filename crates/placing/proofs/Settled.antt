@@ -3,7 +3,7 @@
 -- Assumes nothing.
 use mathlib.Core.Path.{_≡_, sym, _∙_}
 use denote.Ref.{now}
-use Rattle.cells.specs.Changed.{holding}
+use Rattle.model.specs.Buffers.{holding}
 use Rattle.placing.proofs.place.Reads as place
 
 pub place-settled : (κs : _) (a : _) (x y : _) (e f : _) → place.Post κs a x e → place.Post κs a y f

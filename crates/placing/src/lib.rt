@@ -9,8 +9,7 @@ ghost use mathlib.Core.Path.{_≡_};
 ghost use mathlib.Core.Bool.{true, _&&_};
 ghost use Prim.Native.Nat.{_≤_};
 ghost use Rattle.model.specs.Description.{sound, isLevel, isRelation};
-ghost use Rattle.model.specs.Buffers.{fitting};
-ghost use Rattle.cells.specs.Changed.{holding};
+ghost use Rattle.model.specs.Buffers.{holding, fitting};
 ghost use Rattle.change.specs.Facts.{Filled};
 ghost use Rattle.placing.specs.Placing.{Places, rowRead, smallClasses};
 

@@ -18,14 +18,13 @@ use Rattle.model.specs.declared.Answer.{Answer}
 use Rattle.model.specs.declared.Answer.the-variants as Answers
 use Rattle.model.specs.Description.{sound}
 use Rattle.model.specs.Tables.{State, seen}
-use Rattle.model.specs.Buffers.{Buffers, fitting, stateOf, buffersOf}
+use Rattle.model.specs.Buffers.{Buffers, holding, fitting, stateOf, buffersOf}
 use Rattle.model.specs.Judge.{legal}
 use Rattle.model.specs.Effect.{Effect}
 use Rattle.model.specs.Select.{Shown, valuesShown, ownersShown}
 use Rattle.model.specs.Run.{Request, Outcome, subject, relation, metCount, formed, further, firstFault, tests, refusal, effectAs, left, after, shownAs, countAs, refused, done, run}
 use Rattle.model.proofs.Border.{buffers-state}
 use Rattle.theory.proofs.Calls.{run-refused, run-done}
-use Rattle.cells.specs.Changed.{holding}
 use Rattle.change.specs.Facts.{Answered, refuses, does, Showed, shows, Inserts, Deletes, Updates, Uplevels, Selects, metRows}
 use Rattle.register.specs.Calls.{request, outcome}
 

@@ -14,7 +14,7 @@ use Rattle.model.specs.declared.Description.{Description}
 use Rattle.model.specs.declared.What.{What}
 use Rattle.model.specs.declared.What.the-variants as Whats
 use Rattle.model.specs.Description.{isLevel, isRelation, columnCount, totalOf}
-use Rattle.model.specs.Buffers.{fitting, stateOf}
+use Rattle.model.specs.Buffers.{holding, fitting, stateOf}
 use Rattle.model.specs.Conditions.{conditionsFormed}
 use Rattle.model.specs.Insert.{insertFormed}
 use Rattle.model.specs.Update.{updateFormed}
@@ -24,7 +24,6 @@ use Rattle.model.specs.Run.{Request, subject, relation, formed, formedAs, empty
 use Rattle.model.proofs.Sound.{relation-r, relation-of}
 use Rattle.cells.specs.declared.layout.Part.{Part}
 use Rattle.cells.specs.Layout.{Laid}
-use Rattle.cells.specs.Changed.{holding}
 use Rattle.cells.proofs.Counts.{sound-says, relation-few, column-count}
 use Rattle.asked.specs.Facts.{Ordered, Related}
 use Rattle.change.specs.Facts.{Standing}

@@ -11,10 +11,9 @@ use Rattle.model.specs.declared.Description.{Description}
 use Rattle.model.specs.declared.Verdict.{Verdict}
 use Rattle.model.specs.declared.Verdict.the-variants as Verdicts
 use Rattle.model.specs.Description.{sound}
-use Rattle.model.specs.Buffers.{Buffers, fitting, stateOf}
+use Rattle.model.specs.Buffers.{Buffers, holding, fitting, stateOf}
 use Rattle.model.specs.Judge.{legal, judge}
 use Rattle.model.specs.Numbers.{verdictNumber}
-use Rattle.cells.specs.Changed.{holding}
 use Rattle.register.specs.Facts.{Ordering, Judged}
 
 abbrev said : Bool → Bool → Bool → Verdict

@@ -5,7 +5,7 @@ use Prim.Native.Nat.{ℕ}
 use Rattle.model.specs.declared.Statement.{Statement}
 use Rattle.model.specs.declared.Answer.{Answer}
 use Rattle.model.specs.Run.{Request, Outcome}
-use Rattle.cells.specs.Changed.{holding}
+use Rattle.model.specs.Buffers.{holding}
 
 abbrev pub request : Statement → List ℕ → List ℕ → List ℕ → List ℕ → Request
 request statement list conditions shown owners =

@@ -7,9 +7,8 @@ use Prim.Native.Nat.{ℕ}
 use Rattle.level.specs.Order.{orderOf}
 use Rattle.model.specs.declared.Description.{Description}
 use Rattle.model.specs.Description.{sound}
-use Rattle.model.specs.Buffers.{fitting, stateOf}
+use Rattle.model.specs.Buffers.{holding, fitting, stateOf}
 use Rattle.model.specs.Judge.{legal}
-use Rattle.cells.specs.Changed.{holding}
 
 -- a sound description and its order
 pub record Ordering (d : Description) (order : List (List Bool)) : Type 0 where

@@ -10,7 +10,7 @@ use model::Verdict;
 ghost use mathlib.Core.Path.{_≡_};
 ghost use Rattle.model.specs.Judge as judges;
 ghost use Rattle.model.specs.Run as runs;
-ghost use Rattle.cells.specs.Changed.{holding};
+ghost use Rattle.model.specs.Buffers.{holding};
 ghost use Rattle.register.specs.Calls.{request, outcome};
 
 // What is to be said of a description and two buffers: the first of what is wrong.

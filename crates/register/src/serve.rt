@@ -14,7 +14,7 @@ use uplevel::uplevel;
 ghost use mathlib.Core.Path.{_≡_};
 ghost use mathlib.Core.Bool.{true};
 ghost use Rattle.model.specs.Run as runs;
-ghost use Rattle.cells.specs.Changed.{holding};
+ghost use Rattle.model.specs.Buffers.{holding};
 ghost use Rattle.register.specs.Facts.{Judged};
 ghost use Rattle.register.specs.Calls.{request, outcome};
 

@@ -16,7 +16,7 @@ use Rattle.model.specs.declared.Answer.{Answer}
 use Rattle.model.specs.declared.Answer.the-variants as Answers
 use Rattle.model.specs.Description.{over}
 use Rattle.model.specs.Tables.{State}
-use Rattle.model.specs.Buffers.{stateOf}
+use Rattle.model.specs.Buffers.{holding, stateOf}
 use Rattle.model.specs.Listed.{eachLevel}
 use Rattle.model.specs.Conditions.{conditionsFormed}
 use Rattle.model.specs.Select.{Shown, selectTests, found, valuesShown, ownersShown}
@@ -25,7 +25,6 @@ use Rattle.model.proofs.Sound.{relation-r, relation-of}
 use Rattle.theory.proofs.Described.{sound-laws}
 use Rattle.cells.specs.declared.layout.Part.{Part}
 use Rattle.cells.specs.Layout.{Laid, Lent}
-use Rattle.cells.specs.Changed.{holding}
 use Rattle.cells.proofs.Counts.{sound-says}
 use Rattle.asked.specs.Facts.{Ordered}
 use Rattle.conditions.specs.Facts.{Asking}

@@ -14,9 +14,9 @@ use Rattle.bounded.proofs.Lists.{write-none, write-more, write-on, list-length,
 use Rattle.model.specs.declared.Description.{Description}
 use Rattle.model.specs.Description.{columnCount}
 use Rattle.model.specs.Tables.{Cell, Row}
-use Rattle.model.specs.Buffers.{stateOf}
+use Rattle.model.specs.Buffers.{holding, stateOf}
 use Rattle.model.specs.Select.{Shown, valuesShown, ownersShown}
-use Rattle.cells.specs.Changed.{holding, classAt}
+use Rattle.cells.specs.Changed.{classAt}
 use Rattle.cells.proofs.Cells.{state-cell}
 use Rattle.select.specs.declared.At.{At}
 use Rattle.select.specs.Facts.{valuesOf, ownersOf, rowShown, Room, Wrote}

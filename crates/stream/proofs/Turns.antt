@@ -13,10 +13,9 @@ use Rattle.model.specs.declared.Description.{Description}
 use Rattle.model.specs.declared.Statement.{Statement}
 use Rattle.model.specs.declared.Answer.{Answer}
 use Rattle.model.specs.Description.{columnCount, totalOf, sound}
-use Rattle.model.specs.Buffers.{Buffers, fitting}
+use Rattle.model.specs.Buffers.{Buffers, holding, fitting}
 use Rattle.model.specs.Run.{Request, Outcome, run}
 use Rattle.theory.proofs.Calls.{run-refused}
-use Rattle.cells.specs.Changed.{holding}
 use Rattle.records.specs.declared.Read.{Read}
 use Rattle.records.specs.declared.Read.the-variants as Reads
 use Rattle.records.specs.Record.{kindAfter}

@@ -9,7 +9,7 @@ use Rattle.model.specs.Tables.{cell}
 use Rattle.model.specs.Buffers.{Buffers}
 use Rattle.model.specs.Run.{Request}
 use Rattle.model.proofs.Computed.{computed}
-use Rattle.model.proofs.Build.{deleteAt, key, holding}
+use Rattle.model.proofs.Build.{deleteAt, key, laidOut}
 use Rattle.model.proofs.Worked.{five, no₂, X, row₁, ref}
 use Rattle.theory.specs.Theorems.{tables, leaves, hears, Deleted, Emptied, NamesEmptied, Lent}
 use Rattle.theory.proofs.Said.{delete-as-said}
@@ -17,7 +17,7 @@ use Rattle.theory.proofs.Said.{delete-as-said}
 -- ---- P11 at 0: the entity is level 0's own, and level 1 refers to it
 
 abbrev referred : Buffers
-referred = holding (X row₁ ref no₂)
+referred = laidOut (X row₁ ref no₂)
 
 abbrev lowest : Request
 lowest = deleteAt 0 1 (key 7)
@@ -55,7 +55,7 @@ reference-null = delete-as-said five referred lowest 1 refl lowest-done .referen
 -- ---- P1, then DELETE at 1, where the entity is level 0's: level 3 has column 2 from level 1, and column 3 from level 2
 
 abbrev lending : Buffers
-lending = holding (X row₁ no₂ no₂)
+lending = laidOut (X row₁ no₂ no₂)
 
 abbrev lender : Request
 lender = deleteAt 1 1 []

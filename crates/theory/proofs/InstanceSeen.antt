@@ -19,7 +19,7 @@ use Rattle.model.specs.Buffers.{Buffers, stateOf, buffersOf, inside}
 use Rattle.model.specs.Run.{Request}
 use Rattle.model.proofs.Border.{Inside, inside-says, state-framed}
 use Rattle.model.proofs.Computed.{computed}
-use Rattle.model.proofs.Build.{updateAt, holding}
+use Rattle.model.proofs.Build.{updateAt, laidOut}
 use Rattle.model.proofs.Worked.{five, no₁, no₂, levels, x₀, x₁, X}
 use Rattle.theory.specs.Laws.{Laws}
 use Rattle.theory.specs.Theorems.{Yes, tables, leaves, hears, SeesSame}
@@ -67,7 +67,7 @@ module _ (d : Description) (L : Laws d) (b b′ : Buffers) where
 -- ---- sees-only: tables X, with and without P1's row at level 3
 
 abbrev other : Buffers
-other = holding (X no₁ no₂ no₂)
+other = laidOut (X no₁ no₂ no₂)
 
 pub other-legal : Yes five other
 unfolding computed
@@ -109,7 +109,7 @@ side-stays = sees-only five side .stays start start-legal 2 false≢true
 
 -- ---- visible-legal: level 1 sees levels 0 and 1 of those tables
 
-pub one-visible : buffersOf five (seen five 1 (stateOf five start)) ≡ holding (levels x₀ x₁ no₁ no₁ no₂ no₂)
+pub one-visible : buffersOf five (seen five 1 (stateOf five start)) ≡ laidOut (levels x₀ x₁ no₁ no₁ no₂ no₂)
 unfolding computed
 one-visible = refl
 

@@ -7,7 +7,7 @@ use native.Mathlib.Omega.{arith}
 use Rattle.model.specs.Tables.{cell, nocell}
 use Rattle.model.specs.Buffers.{Buffers}
 use Rattle.model.proofs.Computed.{computed}
-use Rattle.model.proofs.Build.{holding}
+use Rattle.model.proofs.Build.{laidOut}
 use Rattle.model.proofs.Worked.{five, no₁, no₂, X, p₁, p₃}
 use Rattle.theory.specs.Theorems.{Yes, tables, leaves, Held, Named}
 use Rattle.theory.proofs.Fine.{value-of}
@@ -18,7 +18,7 @@ use Rattle.theory.proofs.Instance.{start, start-legal}
 -- ---- P1: level 3 had no row, and shows level 1's 21
 
 abbrev before : Buffers
-before = holding (X no₁ no₂ no₂)
+before = laidOut (X no₁ no₂ no₂)
 
 before-legal : Yes five before
 unfolding computed

@@ -22,7 +22,7 @@ use Rattle.model.specs.declared.Fault.the-variants as Faults
 use Rattle.model.specs.declared.Answer.the-variants as Answers
 use Rattle.model.specs.Description.{between, distinctBelow, isColumn, rowCount, columnCount, inRange}
 use Rattle.model.specs.Tables.{Cell, Row, State, Level, rowsOf}
-use Rattle.model.specs.Buffers.{stateOf}
+use Rattle.model.specs.Buffers.{holding, stateOf}
 use Rattle.model.specs.Listed.{whole, pairs, columnAt, secondAt, each, listed, lists, columnsOnce}
 use Rattle.model.specs.Conditions.{met}
 use Rattle.model.specs.Effect.{Rows, Effect, Above, Change}
@@ -31,7 +31,7 @@ use Rattle.model.specs.Update.{updateFormed, anyMet, updateTests, setIn, takeIn
 use Rattle.model.specs.Run.{left}
 use Rattle.model.proofs.Sound.{between-r, column-r}
 use Rattle.cells.specs.declared.layout.Part.{Part}
-use Rattle.cells.specs.Changed.{holding, changeLevel}
+use Rattle.cells.specs.Changed.{changeLevel}
 use Rattle.asked.specs.declared.pairs.Rule.the-variants as Rules
 use Rattle.asked.specs.Facts.{ruleOf}
 use Rattle.conditions.specs.Facts.{Marked, Counted, metAt}

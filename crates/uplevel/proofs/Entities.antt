@@ -14,9 +14,9 @@ use Rattle.bounded.proofs.Reflection.{is-true, is-false, of-true}
 use Rattle.model.specs.declared.Description.{Description}
 use Rattle.model.specs.Description.{over, rowCount, sound}
 use Rattle.model.specs.Tables.{Cell, Row, cell, same, State, rowsOf, seen, place, at, lends}
-use Rattle.model.specs.Buffers.{stateOf}
+use Rattle.model.specs.Buffers.{holding, stateOf}
 use Rattle.model.specs.Uplevel.{based}
-use Rattle.cells.specs.Changed.{holding, valueAt, classAt, keyPlace, entityPlace}
+use Rattle.cells.specs.Changed.{valueAt, classAt, keyPlace, entityPlace}
 use Rattle.cells.proofs.Cells.{state-cell}
 use Rattle.cells.proofs.Sought.{place-key, at-row, at-there, at-nowhere}
 use Rattle.cells.proofs.Written.{entity-nowhere, entity-here, entity-other}

@@ -5,7 +5,7 @@ use mathlib.Core.Path.{_≡_, sym, _∙_}
 use lib.ListN.{length}
 use denote.Ref.{now}
 use Rattle.level.proofs.Settled.{Settled}
-use Rattle.cells.specs.Changed.{holding}
+use Rattle.model.specs.Buffers.{holding}
 use Rattle.change.proofs.Answers.{one-answered}
 use Rattle.uplevel.proofs.formed.Reads as formed
 use Rattle.uplevel.proofs.uplevel.Reads as uplevel

@@ -18,12 +18,12 @@ use Rattle.model.specs.declared.Answer.{Answer}
 use Rattle.model.specs.declared.Answer.the-variants as Answers
 use Rattle.model.specs.Description.{over, inRange, rowCount}
 use Rattle.model.specs.Tables.{Cell, State, Tables, cell, same, used, rowsOf, seen, at}
-use Rattle.model.specs.Buffers.{stateOf}
+use Rattle.model.specs.Buffers.{holding, stateOf}
 use Rattle.model.specs.Listed.{each}
 use Rattle.model.specs.Effect.{Rows, Effect, lowestEmpty, hasRoom}
 use Rattle.model.specs.Uplevel.{based, entityOf, borrowedNames, uplevelTests, uplevelled}
 use Rattle.model.specs.Run.{firstFault}
-use Rattle.cells.specs.Changed.{holding, keyPlace, entityPlace}
+use Rattle.cells.specs.Changed.{keyPlace, entityPlace}
 use Rattle.asked.specs.declared.pairs.Rule.the-variants as Rules
 use Rattle.asked.specs.Facts.{ruleOf}
 use Rattle.theory.proofs.Seen.{seen-at, seen-own}

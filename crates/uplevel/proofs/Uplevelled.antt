@@ -18,7 +18,7 @@ use Rattle.bounded.proofs.Reflection.{is-true, is-false, of-true, and-r, bool-r
 use Rattle.model.specs.declared.Description.{Description}
 use Rattle.model.specs.Description.{between, isLevel, isColumn, over, inRange, rowCount, columnCount, refersOf}
 use Rattle.model.specs.Tables.{Cell, Row, Tables, Level, State, cell, nocell, same, rowsOf, seen, place, seek, at, ownNull}
-use Rattle.model.specs.Buffers.{inside, stateOf}
+use Rattle.model.specs.Buffers.{holding, inside, stateOf}
 use Rattle.model.specs.Listed.{each, listed}
 use Rattle.model.specs.Effect.{Rows, only, Above, Effect, goneAt, reach, lowestEmpty}
 use Rattle.model.specs.Uplevel.{borrowed, raised, placed, uplevelled}
@@ -32,7 +32,7 @@ use Rattle.theory.proofs.Judged.{judged}
 use Rattle.theory.proofs.Reach.{Side, at-c, over-c, off-c, side}
 use Rattle.theory.proofs.Seen.{seen-own}
 use Rattle.cells.specs.declared.layout.Part.{Part}
-use Rattle.cells.specs.Changed.{holding, entityPlace, listedRow, withRow, changeLevel}
+use Rattle.cells.specs.Changed.{entityPlace, listedRow, withRow, changeLevel}
 use Rattle.cells.proofs.Cells.{state-path}
 use Rattle.cells.proofs.Changes.{change-here, change-other}
 use Rattle.above.specs.Facts.{Working, Planned, markedAt, changeOf, aboveOf, carried}

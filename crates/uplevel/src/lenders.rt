@@ -12,9 +12,8 @@ ghost use mathlib.Core.Logic.{_≢_};
 ghost use lib.ListN.{length};
 ghost use Rattle.model.specs.Description.{isColumn};
 ghost use Rattle.model.specs.Tables.{cell, at, lends, rowsOf};
-ghost use Rattle.model.specs.Buffers.{stateOf};
+ghost use Rattle.model.specs.Buffers.{holding, stateOf};
 ghost use Rattle.cells.specs.Layout.{Lent, InLevel};
-ghost use Rattle.cells.specs.Changed.{holding};
 ghost use Rattle.above.specs.Facts.{Reaching};
 ghost use Rattle.uplevel.specs.Raising.{strayed};
 

@@ -4,8 +4,7 @@ use mathlib.Core.Path.{_≡_, refl, _∙_}
 use native.Mathlib.Omega.{arith}
 use borrow.Author.Needs.{needs}
 use lib.ListN.{length}
-use Rattle.model.specs.Buffers.{stateOf}
-use Rattle.cells.specs.Changed.{holding}
+use Rattle.model.specs.Buffers.{holding, stateOf}
 use Rattle.above.specs.Facts.{carriedBelow}
 use Rattle.above.proofs.Levels.{levels-start, levels-more, levels-end, working-as, planned-as}
 use Rattle.above.proofs.above.Statement.{statement}

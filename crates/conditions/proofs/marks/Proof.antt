@@ -2,9 +2,8 @@
 use Prim.Native.Nat.{_≤_, _-_}
 use native.Mathlib.Omega.{arith}
 use Rattle.model.specs.Description.{rowCount}
-use Rattle.model.specs.Buffers.{stateOf}
+use Rattle.model.specs.Buffers.{holding, stateOf}
 use Rattle.model.specs.Conditions.{conditionCount}
-use Rattle.cells.specs.Changed.{holding}
 use Rattle.conditions.specs.Facts.{Marked}
 use Rattle.conditions.proofs.Marking.{metBy, met-start, met-more, met-end}
 use Rattle.conditions.proofs.marks.Statement.{statement}

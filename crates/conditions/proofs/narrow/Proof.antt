@@ -2,8 +2,7 @@
 use Prim.Native.Nat.{_≤_, _-_}
 use mathlib.Core.Logic.{inl, inr}
 use native.Mathlib.Omega.{arith}
-use Rattle.model.specs.Buffers.{stateOf}
-use Rattle.cells.specs.Changed.{holding}
+use Rattle.model.specs.Buffers.{holding, stateOf}
 use Rattle.conditions.specs.Facts.{asks, Narrowed}
 use Rattle.conditions.proofs.Marking.{narrowed-none, narrowed-more, narrowed-same, narrowed-end}
 use Rattle.conditions.proofs.narrow.Statement.{statement}

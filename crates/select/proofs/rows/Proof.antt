@@ -6,8 +6,7 @@ use lib.ListN.{length}
 use borrow.Author.Needs.{needs}
 use Rattle.bounded.specs.Lists.{concatBelow}
 use Rattle.bounded.proofs.Lists.{concat-start, concat-length}
-use Rattle.model.specs.Buffers.{stateOf}
-use Rattle.cells.specs.Changed.{holding}
+use Rattle.model.specs.Buffers.{holding, stateOf}
 use Rattle.select.specs.Facts.{levelFound}
 use Rattle.select.proofs.Found.{level-count, count-found}
 use Rattle.select.proofs.rows.Statement.{statement}

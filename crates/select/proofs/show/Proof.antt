@@ -5,8 +5,7 @@ use native.Mathlib.Omega.{arith}
 use lib.ListN.{length}
 use borrow.Author.Needs.{needs}
 use Rattle.bounded.specs.Lists.{concatBelow}
-use Rattle.model.specs.Buffers.{stateOf}
-use Rattle.cells.specs.Changed.{holding}
+use Rattle.model.specs.Buffers.{holding, stateOf}
 use Rattle.select.specs.Facts.{Wrote}
 use Rattle.select.proofs.Shown.{wrote-start}
 use Rattle.select.proofs.Found.{rowFound, show-room, show-next, show-end}

@@ -5,8 +5,8 @@ use native.Mathlib.Omega.{arith}
 use lib.ListN.{length}
 use Rattle.model.specs.Description.{columnCount}
 use Rattle.model.specs.Update.{setIn}
-use Rattle.model.specs.Buffers.{stateOf}
-use Rattle.cells.specs.Changed.{holding, changeLevel}
+use Rattle.model.specs.Buffers.{holding, stateOf}
+use Rattle.cells.specs.Changed.{changeLevel}
 use Rattle.above.specs.Facts.{withRows}
 use Rattle.above.proofs.Turns.{rows-start, rows-end}
 use Rattle.marks.specs.Marking.{rowMarked}

@@ -5,10 +5,10 @@ use mathlib.Core.Path.{_≡_, refl, _∙_}
 use native.Mathlib.Omega.{arith}
 use lib.ListN.{length}
 use Rattle.model.specs.Description.{columnCount}
-use Rattle.model.specs.Buffers.{stateOf}
+use Rattle.model.specs.Buffers.{holding, stateOf}
 use Rattle.model.specs.Listed.{pairs as pairsOf, columnAt, secondAt}
 use Rattle.model.proofs.Border.{inside-shown}
-use Rattle.cells.specs.Changed.{holding, withRow, changeLevel}
+use Rattle.cells.specs.Changed.{withRow, changeLevel}
 use Rattle.update.proofs.Setting.{setBelow, set-start, set-more, set-end}
 use Rattle.update.proofs.set.Statement.{statement}
 use Rattle.update.proofs.set.Tie as tie

@@ -4,8 +4,8 @@ use mathlib.Core.Path.{_≡_, refl, _∙_}
 use native.Mathlib.Omega.{arith}
 use lib.ListN.{length}
 use Rattle.model.specs.Description.{columnCount}
-use Rattle.model.specs.Buffers.{stateOf}
-use Rattle.cells.specs.Changed.{holding, changeLevel}
+use Rattle.model.specs.Buffers.{holding, stateOf}
+use Rattle.cells.specs.Changed.{changeLevel}
 use Rattle.above.specs.Facts.{rowUnnamed, withRows}
 use Rattle.above.proofs.Turns.{rows-start, rows-end}
 use Rattle.above.proofs.Unnamed.{references-more}

@@ -6,10 +6,10 @@ use borrow.Author.Needs.{needs}
 use borrow.Author.Tests.{not-true}
 use lib.ListN.{length}
 use Rattle.bounded.proofs.Reflection.{is-true}
-use Rattle.model.specs.Buffers.{stateOf}
+use Rattle.model.specs.Buffers.{holding, stateOf}
 use Rattle.model.proofs.Sound.{relation-r}
 use Rattle.cells.proofs.Counts.{sound-says}
-use Rattle.cells.specs.Changed.{holding, changeLevel}
+use Rattle.cells.specs.Changed.{changeLevel}
 use Rattle.above.specs.Facts.{withReferrers}
 use Rattle.above.proofs.Referred.{referrers-start, referrers-none, referrers-more, referrers-end}
 use Rattle.above.proofs.references.referrers.Statement.{statement}

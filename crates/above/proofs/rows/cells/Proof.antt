@@ -3,9 +3,9 @@ use Prim.Native.Nat.{_≤_, _-_}
 use mathlib.Core.Path.{_≡_, refl, _∙_}
 use native.Mathlib.Omega.{arith}
 use lib.ListN.{length}
-use Rattle.model.specs.Buffers.{stateOf}
+use Rattle.model.specs.Buffers.{holding, stateOf}
 use Rattle.model.proofs.Border.{inside-shown}
-use Rattle.cells.specs.Changed.{holding, withRow, changeLevel}
+use Rattle.cells.specs.Changed.{withRow, changeLevel}
 use Rattle.cells.proofs.Written.{row-start, row-end}
 use Rattle.above.specs.Facts.{turned}
 use Rattle.above.proofs.Rewritten.{cells-turned}

@@ -6,8 +6,8 @@ use native.Mathlib.Omega.{arith}
 use lib.ListN.{length}
 use borrow.Author.Needs.{length-unmapped}
 use Rattle.model.specs.Description.{rowCount, columnCount}
-use Rattle.model.specs.Buffers.{stateOf}
-use Rattle.cells.specs.Changed.{holding, changeLevel}
+use Rattle.model.specs.Buffers.{holding, stateOf}
+use Rattle.cells.specs.Changed.{changeLevel}
 use Rattle.above.specs.Facts.{Lists, rowAfter, withRows}
 use Rattle.above.proofs.Turns.{rows-start, rows-end}
 use Rattle.above.proofs.Rewritten.{rows-after, rows-one}

@@ -9,8 +9,7 @@ use Rattle.bounded.specs.Bounded.{allBelow}
 use Rattle.bounded.proofs.All.{all-start, all-more, all-fails, all-end}
 use Rattle.model.specs.Description.{columnCount}
 use Rattle.model.specs.Tables.{nocell, same, emptyRow}
-use Rattle.model.specs.Buffers.{stateOf}
-use Rattle.cells.specs.Changed.{holding}
+use Rattle.model.specs.Buffers.{holding, stateOf}
 use Rattle.model.proofs.Border.{inside-shown}
 use Rattle.cells.proofs.read.is_empty.Statement.{statement}
 use Rattle.cells.proofs.read.is_empty.Tie as tie

@@ -7,9 +7,8 @@ use Rattle.bounded.specs.Bounded.{firstBelow}
 use Rattle.bounded.proofs.First.{first-start, first-more, first-here, first-end}
 use Rattle.model.specs.Description.{rowCount}
 use Rattle.model.specs.Tables.{emptyRow}
-use Rattle.model.specs.Buffers.{stateOf}
+use Rattle.model.specs.Buffers.{holding, stateOf}
 use Rattle.model.specs.Effect.{lowestEmpty}
-use Rattle.cells.specs.Changed.{holding}
 use Rattle.cells.proofs.search.lowest.Statement.{statement}
 use Rattle.cells.proofs.search.lowest.Tie as tie
 

@@ -4,8 +4,8 @@ use mathlib.Core.Path.{_≡_, refl, sym, _∙_}
 use native.Mathlib.Omega.{arith}
 use borrow.Author.Needs.{needs}
 use lib.ListN.{length}
-use Rattle.model.specs.Buffers.{stateOf}
-use Rattle.cells.specs.Changed.{holding, withRow, changeLevel, listedRow}
+use Rattle.model.specs.Buffers.{holding, stateOf}
+use Rattle.cells.specs.Changed.{withRow, changeLevel, listedRow}
 use Rattle.model.proofs.Border.{inside-shown}
 use Rattle.cells.proofs.Written.{row-start, row-more, row-end}
 use Rattle.cells.proofs.write.store.Statement.{statement}

@@ -6,15 +6,16 @@ use borrow.Author.Needs.{needs}
 use borrow.Author.Tests.{not-true, not-false}
 use Rattle.bounded.specs.Bounded.{allBelow}
 use Rattle.bounded.proofs.All.{all-start, all-more, all-fails, all-end}
-use Rattle.judge.specs.Facts.{tablesOf, Known}
+use Rattle.judge.specs.Facts.{Known}
 use Rattle.model.specs.Judge.{cellRight}
+use Rattle.model.specs.Buffers.{rowsIn}
 use Rattle.judge.proofs.Places.{known-none}
 use Rattle.judge.proofs.Columns.{fitting}
 use Rattle.judge.proofs.lenders.cells.Statement.{statement}
 use Rattle.judge.proofs.lenders.cells.Tie as tie
 
 abbrev Inv-loop : tie.InvT-loop
-Inv-loop values classes keys ranges d area level i row word key kc column cols cache₀ k₀ cache k = (k ≤ area .cols) × (allBelow k (λ j. cellRight d (tablesOf d values classes) (area .relation) level (tablesOf d values classes (area .relation) level i) (suc j)) ≡ true) × Known d (tablesOf d values classes) area key kc cache
+Inv-loop values classes keys ranges d area level i row word key kc column cols cache₀ k₀ cache k = (k ≤ area .cols) × (allBelow k (λ j. cellRight d (rowsIn d values classes) (area .relation) level (rowsIn d values classes (area .relation) level i) (suc j)) ≡ true) × Known d (rowsIn d values classes) area key kc cache
 
 abbrev μ-loop : tie.MeasureT-loop
 μ-loop values classes keys ranges d area level i row word key kc column cols cache₀ k₀ cache k = area .cols - k

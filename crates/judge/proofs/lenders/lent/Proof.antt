@@ -1,7 +1,7 @@
 use Prim.Native.Nat.{suc, _+_, _*_, _<_}
 use mathlib.Core.Path.{sym, _∙_}
 use native.Mathlib.Omega.{arith}
-use Rattle.judge.specs.Facts.{tablesOf}
+use Rattle.model.specs.Buffers.{rowsIn}
 use Rattle.judge.proofs.Places.{Lent, lends-none, lends-some, lent-spot, lent-other, lent-same, same-class}
 use Rattle.judge.proofs.lenders.lent.Statement.{statement}
 use Rattle.judge.proofs.lenders.lent.Tie as tie
@@ -10,7 +10,7 @@ use Rattle.judge.proofs.lenders.lent.Lts as lts
 
 -- the lender's row, where there is one
 from : (c : lts.Else1 reads.Pre reads.Post) → let a = c .before .args in
-    Lent (a .d) (tablesOf (a .d) (a .values .now) (a .classes .now)) (a .area) (a .c) (a .key) (a .kc) (suc (a .k)) (a .p)
+    Lent (a .d) (rowsIn (a .d) (a .values .now) (a .classes .now)) (a .area) (a .c) (a .key) (a .kc) (suc (a .k)) (a .p)
 from c =
     let s = c .before in
     rw (s .pre .1 .0) (lends-some _ _ _ _ _ (s .pre .0 .0) (s .args .c) (s .args .key) (s .args .kc) (suc (s .args .k)) (s .pre .0 .1 .level) (λ e. c .if1 .left (s .pre .1 .0 ∙ e)))

@@ -5,13 +5,13 @@ use native.Mathlib.Omega.{arith}
 use borrow.Author.Tests.{not-true, not-false}
 use Rattle.bounded.specs.Bounded.{allBelow}
 use Rattle.bounded.proofs.All.{all-start, all-more, all-fails, all-end}
-use Rattle.judge.specs.Facts.{tablesOf}
 use Rattle.model.specs.Judge.{rowRight}
+use Rattle.model.specs.Buffers.{rowsIn}
 use Rattle.judge.proofs.rows.levels.Statement.{statement}
 use Rattle.judge.proofs.rows.levels.Tie as tie
 
 abbrev Inv-loop : tie.InvT-loop
-Inv-loop values classes keys ranges below above d area target count level₀ level = (level ≤ area .levels) × (allBelow level (λ l. allBelow (area .rows) (λ j. rowRight d (tablesOf d values classes) (area .relation) l j)) ≡ true)
+Inv-loop values classes keys ranges below above d area target count level₀ level = (level ≤ area .levels) × (allBelow level (λ l. allBelow (area .rows) (λ j. rowRight d (rowsIn d values classes) (area .relation) l j)) ≡ true)
 
 abbrev μ-loop : tie.MeasureT-loop
 μ-loop values classes keys ranges below above d area target count level₀ level = area .levels - level

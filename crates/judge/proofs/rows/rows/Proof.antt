@@ -5,13 +5,13 @@ use native.Mathlib.Omega.{arith}
 use borrow.Author.Tests.{not-true, not-false}
 use Rattle.bounded.specs.Bounded.{allBelow}
 use Rattle.bounded.proofs.All.{all-start, all-more, all-fails, all-end}
-use Rattle.judge.specs.Facts.{tablesOf}
 use Rattle.model.specs.Judge.{rowRight}
+use Rattle.model.specs.Buffers.{rowsIn}
 use Rattle.judge.proofs.rows.rows.Statement.{statement}
 use Rattle.judge.proofs.rows.rows.Tie as tie
 
 abbrev Inv-loop : tie.InvT-loop
-Inv-loop values classes keys ranges below above d area target level rows i₀ i = (i ≤ area .rows) × (allBelow i (λ j. rowRight d (tablesOf d values classes) (area .relation) level j) ≡ true)
+Inv-loop values classes keys ranges below above d area target level rows i₀ i = (i ≤ area .rows) × (allBelow i (λ j. rowRight d (rowsIn d values classes) (area .relation) level j) ≡ true)
 
 abbrev μ-loop : tie.MeasureT-loop
 μ-loop values classes keys ranges below above d area target level rows i₀ i = area .rows - i

@@ -6,12 +6,13 @@ use borrow.Author.Needs.{needs}
 use Rattle.bounded.specs.Bounded.{allBelow}
 use Rattle.bounded.proofs.All.{all-start, all-more, all-fails, all-end}
 use borrow.Author.Tests.{not-true, not-false}
-use Rattle.judge.specs.Facts.{tablesOf, relationRight, tablesRight}
+use Rattle.model.specs.Buffers.{rowsIn}
+use Rattle.judge.specs.Facts.{relationRight, tablesRight}
 use Rattle.judge.proofs.rows.tables.Statement.{statement}
 use Rattle.judge.proofs.rows.tables.Tie as tie
 
 abbrev Inv-loop : tie.InvT-loop
-Inv-loop values classes keys ranges below above d starts n r₀ r = (r ≤ n) × (allBelow r (λ q. relationRight d (tablesOf d values classes) (suc q)) ≡ true)
+Inv-loop values classes keys ranges below above d starts n r₀ r = (r ≤ n) × (allBelow r (λ q. relationRight d (rowsIn d values classes) (suc q)) ≡ true)
 
 abbrev μ-loop : tie.MeasureT-loop
 μ-loop values classes keys ranges below above d starts n r₀ r = n - r
