@@ -27,10 +27,10 @@ use Rattle.theory.proofs.Seek.{Sought, there, nowhere, sought}
 use Rattle.theory.proofs.Reach.{carry-own, carry-above, carry-aside, Side, at-c, over-c, off-c, side}
 use Rattle.cells.proofs.Changes.{level-path}
 use Rattle.above.specs.declared.Plan.{Plan}
-use Rattle.above.specs.Facts.{markedAt, aboveOf, carried, touchedBy, turnedBy, turned, rowAfter, withRows, goneBy, rowUnnamed, withReferrers, givenBy, Working, Planned}
+use Rattle.above.specs.Facts.{chosenAt, aboveOf, carried, touchedBy, turnedBy, turned, rowAfter, withRows, goneBy, rowUnnamed, withReferrers, givenBy, Working, Planned}
 use Rattle.above.proofs.Referred.{unlike, done-named}
 use Rattle.above.proofs.Taken.{foreign-small}
-use Rattle.above.proofs.Taken.{given-marks, given-gone, turns, foreign-small}
+use Rattle.above.proofs.Taken.{given-chosen, given-gone, turns, foreign-small}
 
 at-same : (d : Description) (S S′ : State) (m : ℕ) → S m ≡ S′ m → (s v : ℕ) → at d (rowsOf S) s m v ≡ at d (rowsOf S′) s m v
 unfolding at
@@ -76,17 +76,17 @@ module _ (d : Description) (c r : ℕ) (P : Plan) where
 
 -- ---- a level above
 
--- a marked key stands at its place
-record Marked (n : ℕ) (marks : List Bool) (B : ℕ → Row) (v : ℕ) : Type 0 where
+-- a chosen key stands at its place
+record ChosenBy (n : ℕ) (chosen : List Bool) (B : ℕ → Row) (v : ℕ) : Type 0 where
   row : place n B v < n
-  mark : getD marks (place n B v) false ≡ true
+  chosen : getD chosen (place n B v) false ≡ true
   key : B (place n B v) 1 .value ≡ v
 
-marked-at : (n : ℕ) (marks : List Bool) (B : ℕ → Row) (v : ℕ) → markedAt n marks B v ≡ true → Marked n marks B v
-unfolding markedAt place
-marked-at n marks B v e =
-    let both = of-true (and-r (ltb-r (place n B v) n) (bool-r (getD marks (place n B v) false))) e in
-    record { row = both .0; mark = both .1; key = eqb-true _ _ (first-holds n (λ i. eqb (B i 1 .value) v) (both .0)) }
+chosen-at : (n : ℕ) (chosen : List Bool) (B : ℕ → Row) (v : ℕ) → chosenAt n chosen B v ≡ true → ChosenBy n chosen B v
+unfolding chosenAt place
+chosen-at n chosen B v e =
+    let both = of-true (and-r (ltb-r (place n B v) n) (bool-r (getD chosen (place n B v) false))) e in
+    record { row = both .0; chosen = both .1; key = eqb-true _ _ (first-holds n (λ i. eqb (B i 1 .value) v) (both .0)) }
 
 both : (g : Bool) (a b c : ℕ) → a ≡ b → (g && (eqb a c && eqb b c)) ≡ (g && eqb b c)
 both g a b c q = rw q (cases (eqb b c) (λ t. rw t) (λ t. rw t))
@@ -104,8 +104,8 @@ module _ (d : Description) (order : List (List Bool)) (r c : ℕ) (P : Plan) (S 
   abbrev E : Above
   E = aboveOf d c r P (S c .rows)
 
-  abbrev marked : ℕ → Bool
-  marked v = markedAt (rowCount d r) (P .marks) (S c .rows r) v
+  abbrev chosen : ℕ → Bool
+  chosen v = chosenAt (rowCount d r) (P .chosen) (S c .rows r) v
 
   L : Laws d
   L = sound-laws d (W .sound-is)
@@ -120,8 +120,8 @@ module _ (d : Description) (order : List (List Bool)) (r c : ℕ) (P : Plan) (S 
   pub not-self : refersOf d r ≢ r
   not-self = unlike d (W .sound-is) r (relation .keyed)
 
-  marked-some : (v : ℕ) → marked v ≡ true → v ≢ 0
-  marked-some v e z = let m = marked-at (rowCount d r) (P .marks) (S c .rows r) v e in Q .real (place (rowCount d r) (S c .rows r) v) (m .row) (m .mark) (m .key ∙ z)
+  chosen-some : (v : ℕ) → chosen v ≡ true → v ≢ 0
+  chosen-some v e z = let m = chosen-at (rowCount d r) (P .chosen) (S c .rows r) v e in Q .real (place (rowCount d r) (S c .rows r) v) (m .row) (m .chosen) (m .key ∙ z)
 
   module _ (l : ℕ) where
     gone-is : (v s : ℕ) → goneAt d T c E l v s ≡ (eqb s r && goneBy d r P c S l v)
@@ -129,16 +129,16 @@ module _ (d : Description) (order : List (List Bool)) (r c : ℕ) (P : Plan) (S 
     gone-is v s =
         cases (eqb s r)
         (λ t. rw (eqb-true s r t, eq-eqb r r refl)
-        (cases (P .gone) (λ g. cases (marked v) (λ m. rw (g, m)) (λ m. rw (g, m))) (λ g. rw g)))
+        (cases (P .gone) (λ g. cases (chosen v) (λ m. rw (g, m)) (λ m. rw (g, m))) (λ g. rw g)))
         (λ t. rw t)
 
-    gone-unmarked : (v : ℕ) → marked v ≡ false → goneBy d r P c S l v ≡ false
+    gone-unchosen : (v : ℕ) → chosen v ≡ false → goneBy d r P c S l v ≡ false
     unfolding goneBy
-    gone-unmarked v m = cases (P .gone) (λ g. rw (g, m)) (λ g. rw g)
+    gone-unchosen v m = cases (P .gone) (λ g. rw (g, m)) (λ g. rw g)
 
     -- no null names a row
     gone-null : goneBy d r P c S l 0 ≡ false
-    gone-null = gone-unmarked 0 (is-false (bool-r (marked 0)) (λ m. marked-some 0 m refl))
+    gone-null = gone-unchosen 0 (is-false (bool-r (chosen 0)) (λ m. chosen-some 0 m refl))
 
     -- so no row of it loses a reference
     gone-self : (v : ℕ) → goneAt d T c E l v (refersOf d r) ≡ false
@@ -146,10 +146,10 @@ module _ (d : Description) (order : List (List Bool)) (r c : ℕ) (P : Plan) (S 
 
     -- ---- a row of the relation
 
-    reach-unmarked : (R : Row) (k : ℕ) → marked (R 1 .value) ≡ false → reach d T c E r l R k ≡ R k
+    reach-unchosen : (R : Row) (k : ℕ) → chosen (R 1 .value) ≡ false → reach d T c E r l R k ≡ R k
     unfolding reach aboveOf changed
-    reach-unmarked R k m =
-        rw (gone-is (R 1 .value) r, eq-eqb r r refl, gone-unmarked (R 1 .value) m, gone-self (R k .value), m)
+    reach-unchosen R k m =
+        rw (gone-is (R 1 .value) r, eq-eqb r r refl, gone-unchosen (R 1 .value) m, gone-self (R k .value), m)
         (cases (eqb (R k .class) c && same (R 1) (T r c (R 1 .value) 1)) (λ t. rw t) (λ t. rw t (cases (eqb k (foreignOf d r)) (λ u. rw u) (λ u. rw u))))
 
     module _ (i : ℕ) (h : i < rowCount d r) (k : ℕ) (least : 0 < k) where
@@ -170,17 +170,17 @@ module _ (d : Description) (order : List (List Bool)) (r c : ℕ) (P : Plan) (S 
           go (there j g e q) = q ∙ ap (S l .rows r) (W .one-row r l j i (λ z. nz (sym e ∙ z)) e)
           go (nowhere f _) = absurd (f i h refl)
 
-      module _ (m : marked v ≡ true) where
-        known : Marked (rowCount d r) (P .marks) (S c .rows r) v
-        known = marked-at (rowCount d r) (P .marks) (S c .rows r) v m
+      module _ (m : chosen v ≡ true) where
+        known : ChosenBy (rowCount d r) (P .chosen) (S c .rows r) v
+        known = chosen-at (rowCount d r) (P .chosen) (S c .rows r) v m
 
         there-own : T r c v ≡ own
         unfolding at seek
         there-own = rw (lt-ltb _ _ (known .row))
 
-        gone-marked : goneAt d T c E l v r ≡ (P .gone && (eqb (own 1 .class) c && eqb (R 1 .class) c))
+        gone-chosen : goneAt d T c E l v r ≡ (P .gone && (eqb (own 1 .class) c && eqb (R 1 .class) c))
         unfolding goneBy
-        gone-marked = rw (gone-is v r, eq-eqb r r refl, m, there-own, here (marked-some v m))
+        gone-chosen = rw (gone-is v r, eq-eqb r r refl, m, there-own, here (chosen-some v m))
 
         same-own : same (R 1) (T r c v 1) ≡ eqb (R 1 .class) (own 1 .class)
         unfolding same
@@ -189,7 +189,7 @@ module _ (d : Description) (order : List (List Bool)) (r c : ℕ) (P : Plan) (S 
         reach-touched : own 1 .class ≡ R 1 .class → reach d T c E r l R k ≡ (if P .gone && eqb (R 1 .class) c then nocell else turned (givenBy d r P c S l .kinds) (givenBy d r P c S l .values) (givenBy d r P c S l .classes) c k (R k))
         unfolding reach aboveOf turned turnedBy
         reach-touched q =
-            rw (gone-marked, both (P .gone) (own 1 .class) (R 1 .class) c q, same-own, eq-eqb (R 1 .class) (own 1 .class) (sym q), eq-eqb r r refl, m, gone-self (R k .value))
+            rw (gone-chosen, both (P .gone) (own 1 .class) (R 1 .class) c q, same-own, eq-eqb (R 1 .class) (own 1 .class) (sym q), eq-eqb r r refl, m, gone-self (R k .value))
             (cases (P .gone && eqb (R 1 .class) c)
             (λ t. rw t)
             (λ t. rw t
@@ -200,28 +200,28 @@ module _ (d : Description) (order : List (List Bool)) (r c : ℕ) (P : Plan) (S 
         reach-apart : own 1 .class ≢ R 1 .class → reach d T c E r l R k ≡ R k
         unfolding reach
         reach-apart q =
-            rw (gone-marked, neither (P .gone) (own 1 .class) (R 1 .class) c q, same-own, ne-eqb (R 1 .class) (own 1 .class) (λ e. q (sym e)), gone-self (R k .value))
+            rw (gone-chosen, neither (P .gone) (own 1 .class) (R 1 .class) c q, same-own, ne-eqb (R 1 .class) (own 1 .class) (λ e. q (sym e)), gone-self (R k .value))
             (cases (eqb (R k .class) c)
             (λ u. rw u (cases (eqb k (foreignOf d r)) (λ w. rw w) (λ w. rw w)))
             (λ u. rw u (cases (eqb k (foreignOf d r)) (λ w. rw w) (λ w. rw w))))
 
       after-is : rowAfter (rowCount d r) (givenBy d r P c S l) c (S c .rows r) R k
-          ≡ (if touchedBy (rowCount d r) (P .marks) (S c .rows r) R then (if P .gone && eqb (R 1 .class) c then nocell else turned (givenBy d r P c S l .kinds) (givenBy d r P c S l .values) (givenBy d r P c S l .classes) c k (R k)) else R k)
+          ≡ (if touchedBy (rowCount d r) (P .chosen) (S c .rows r) R then (if P .gone && eqb (R 1 .class) c then nocell else turned (givenBy d r P c S l .kinds) (givenBy d r P c S l .values) (givenBy d r P c S l .classes) c k (R k)) else R k)
       unfolding rowAfter
       after-is =
           ap₂ (λ (x : List Bool) (g : Bool). if touchedBy (rowCount d r) x (S c .rows r) R then (if g && eqb (R 1 .class) c then nocell else turned (givenBy d r P c S l .kinds) (givenBy d r P c S l .values) (givenBy d r P c S l .classes) c k (R k)) else R k)
-          (given-marks d r c l P S Q foreign-few) (given-gone d r c l P S Q foreign-few)
+          (given-chosen d r c l P S Q foreign-few) (given-gone d r c l P S Q foreign-few)
 
       row-own : reach d T c E r l R k ≡ rowAfter (rowCount d r) (givenBy d r P c S l) c (S c .rows r) R k
       unfolding touchedBy used
       row-own =
           cases (eqb v 0)
-          (λ t. rw (after-is, t) (reach-unmarked R k (is-false (bool-r (marked v)) (λ m. marked-some v m (eqb-true v 0 t)))))
-          (λ t. cases (marked v)
+          (λ t. rw (after-is, t) (reach-unchosen R k (is-false (bool-r (chosen v)) (λ m. chosen-some v m (eqb-true v 0 t)))))
+          (λ t. cases (chosen v)
           (λ m. cases (eqb (own 1 .class) (R 1 .class))
           (λ u. rw (after-is, t, m, u) (reach-touched m (eqb-true _ _ u)))
           (λ u. rw (after-is, t, m, u) (reach-apart m (eqb-false _ _ u))))
-          (λ m. rw (after-is, t, m) (reach-unmarked R k m)))
+          (λ m. rw (after-is, t, m) (reach-unchosen R k m)))
 
     -- ---- a row of another relation
 

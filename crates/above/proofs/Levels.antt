@@ -19,7 +19,7 @@ use Rattle.theory.proofs.Described.{sound-laws}
 use Rattle.theory.proofs.Reach.{Side, at-c, over-c, off-c, side}
 use Rattle.cells.specs.Changed.{changeLevel}
 use Rattle.above.specs.declared.Plan.{Plan}
-use Rattle.above.specs.Facts.{markedAt, changeOf, aboveOf, carried, carriedBelow, Working, Planned}
+use Rattle.above.specs.Facts.{chosenAt, changeOf, aboveOf, carried, carriedBelow, Working, Planned}
 use Rattle.above.proofs.Carried.{carried-own, carried-cell, carried-local, off, reach-nothing}
 
 -- ---- the levels, one after another
@@ -88,7 +88,7 @@ module _ (d : Description) (order : List (List Bool)) (r c : ℕ) (P : Plan) (S 
       cases (goneAt d (at d (rowsOf S)) c (aboveOf d c r P (S c .rows)) l (R 1 .value) s)
       (λ t. rw t (inr refl))
       (λ t. cases (eqb (R 1 .class) c && same (R 1) (at d (rowsOf S) s c (R 1 .value) 1))
-      (λ u. rw (t, u) (change-key l s (eqb s r && markedAt (rowCount d s) (P .marks) (S c .rows s) (R 1 .value)) (R 1)))
+      (λ u. rw (t, u) (change-key l s (eqb s r && chosenAt (rowCount d s) (P .chosen) (S c .rows s) (R 1 .value)) (R 1)))
       (λ u. cases (eqb 1 (foreignOf d s) && goneAt d (at d (rowsOf S)) c (aboveOf d c r P (S c .rows)) l (R 1 .value) (refersOf d s))
       (λ w. rw (t, u, w) (inr refl))
       (λ w. rw (t, u, w) (inl refl))))

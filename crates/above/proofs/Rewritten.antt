@@ -123,7 +123,7 @@ module _ (d : Description) (vs cs : List ℕ) (n m r l i : ℕ) (P : Plan) (c : 
   after = rowAfter n P c (T c .rows r) (T l .rows r i)
 
   abbrev touched : Bool
-  touched = touchedBy n (P .marks) (T c .rows r) (T l .rows r i)
+  touched = touchedBy n (P .chosen) (T c .rows r) (T l .rows r i)
 
   -- a row whose entity isn't touched stays
   pub row-kept : {b : Bool} → b ≡ touched → b ≡ false → T ≡ changeLevel l (withRow m r i after) T

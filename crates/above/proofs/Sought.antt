@@ -20,7 +20,7 @@ use Rattle.cells.specs.Changed.{valueAt, classAt, keyPlace}
 use Rattle.cells.proofs.Cells.{state-cell}
 use Rattle.cells.proofs.Sought.{place-key, at-there, at-nowhere}
 use Rattle.above.specs.declared.Plan.{Plan}
-use Rattle.above.specs.Facts.{OneRow, markedAt, touchedBy, goneBy}
+use Rattle.above.specs.Facts.{OneRow, chosenAt, touchedBy, goneBy}
 
 -- a row that has the key is the row of the key, where no key stands in two rows
 pub key-here : (d : Description) (vs : List ℕ) (r l v i : ℕ) → OneRow d vs r l → v ≢ 0 → i < rowCount d r → valueAt d vs r l i 1 ≡ v → i ≡ keyPlace d vs r l v
@@ -47,34 +47,34 @@ module _ (d : Description) (vs cs : List ℕ) where
 
     module _ (on : P .gone ≡ true) {own : ℕ} (e : own ≡ keyPlace d vs r c v) where
       pub gone-none : rowCount d r ≤ own → false ≡ gone
-      unfolding goneBy markedAt
+      unfolding goneBy chosenAt
       gone-none h = rw (on, place-key d vs cs r c v, ← e, le-ltb own (rowCount d r) h)
 
       module _ (h : own < rowCount d r) where
-        pub gone-unmarked : getD (P .marks) own false ≡ false → false ≡ gone
-        unfolding goneBy markedAt
-        gone-unmarked m = rw (on, place-key d vs cs r c v, ← e, lt-ltb own (rowCount d r) h, m)
+        pub gone-unchosen : getD (P .chosen) own false ≡ false → false ≡ gone
+        unfolding goneBy chosenAt
+        gone-unchosen m = rw (on, place-key d vs cs r c v, ← e, lt-ltb own (rowCount d r) h, m)
 
-        module _ (m : getD (P .marks) own false ≡ true) where
+        module _ (m : getD (P .chosen) own false ≡ true) where
           pub gone-other : (classAt d cs r c own 1 ≡ c → ⊥) → false ≡ gone
-          unfolding goneBy markedAt
+          unfolding goneBy chosenAt
           gone-other n = rw (on, place-key d vs cs r c v, ← e, lt-ltb own (rowCount d r) h, m, at-there d vs cs r c v e h, ne-eqb _ _ n)
 
           module _ (q : classAt d cs r c own 1 ≡ c) {row : ℕ} (f : row ≡ keyPlace d vs r l v) where
             pub gone-missing : c < 16 → rowCount d r ≤ row → false ≡ gone
-            unfolding goneBy markedAt
+            unfolding goneBy chosenAt
             gone-missing s g =
                 rw (on, place-key d vs cs r c v, ← e, lt-ltb own (rowCount d r) h, m, at-there d vs cs r c v e h, eq-eqb _ _ q, at-nowhere d vs cs r l v f g, ne-eqb 255 c (λ x. omega arith))
 
             pub gone-there : row < rowCount d r → eqb (classAt d cs r l row 1) c ≡ gone
-            unfolding goneBy markedAt
+            unfolding goneBy chosenAt
             gone-there g = rw (on, place-key d vs cs r c v, ← e, lt-ltb own (rowCount d r) h, m, at-there d vs cs r c v e h, eq-eqb _ _ q, at-there d vs cs r l v f g)
 
   -- ---- whether a row is touched
 
-  module _ (r : ℕ) (marks : List Bool) (c l i : ℕ) {v : ℕ} (k : v ≡ valueAt d vs r l i 1) where
+  module _ (r : ℕ) (chosen : List Bool) (c l i : ℕ) {v : ℕ} (k : v ≡ valueAt d vs r l i 1) where
     abbrev touched : Bool
-    touched = touchedBy (rowCount d r) marks (S c .rows r) (S l .rows r i)
+    touched = touchedBy (rowCount d r) chosen (S c .rows r) (S l .rows r i)
 
     pub touched-unused : v ≡ 0 → false ≡ touched
     unfolding touchedBy used
@@ -82,17 +82,17 @@ module _ (d : Description) (vs cs : List ℕ) where
 
     module _ (nz : v ≢ 0) {own : ℕ} (e : own ≡ keyPlace d vs r c v) where
       pub touched-none : rowCount d r ≤ own → false ≡ touched
-      unfolding touchedBy used markedAt
+      unfolding touchedBy used chosenAt
       touched-none h = rw (state-cell d vs cs r l i 1, ← k, ne-eqb v 0 nz, place-key d vs cs r c v, ← e, le-ltb own (rowCount d r) h)
 
       module _ (h : own < rowCount d r) where
-        pub touched-unmarked : getD marks own false ≡ false → false ≡ touched
-        unfolding touchedBy used markedAt
-        touched-unmarked m = rw (state-cell d vs cs r l i 1, ← k, ne-eqb v 0 nz, place-key d vs cs r c v, ← e, lt-ltb own (rowCount d r) h, m)
+        pub touched-unchosen : getD chosen own false ≡ false → false ≡ touched
+        unfolding touchedBy used chosenAt
+        touched-unchosen m = rw (state-cell d vs cs r l i 1, ← k, ne-eqb v 0 nz, place-key d vs cs r c v, ← e, lt-ltb own (rowCount d r) h, m)
 
-        pub touched-marked : getD marks own false ≡ true → eqb (classAt d cs r c own 1) (classAt d cs r l i 1) ≡ touched
-        unfolding touchedBy used markedAt
-        touched-marked m =
+        pub touched-chosen : getD chosen own false ≡ true → eqb (classAt d cs r c own 1) (classAt d cs r l i 1) ≡ touched
+        unfolding touchedBy used chosenAt
+        touched-chosen m =
             rw (state-cell d vs cs r l i 1, ← k, ne-eqb v 0 nz, place-key d vs cs r c v, ← e, lt-ltb own (rowCount d r) h, m, state-cell d vs cs r c own 1)
 
   -- ---- whether two rows with one key are one entity

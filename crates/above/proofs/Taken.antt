@@ -78,9 +78,9 @@ module _ (d : Description) (r c l : ℕ) (P : Plan) (S : State) (Q : Planned d r
   abbrev G : Plan
   G = givenBy d r P c S l
 
-  pub given-marks : G .marks ≡ P .marks
+  pub given-chosen : G .chosen ≡ P .chosen
   unfolding givenBy handed
-  given-marks = cases (lostBy d r P c S l) (λ t. rw t) (λ t. rw t)
+  given-chosen = cases (lostBy d r P c S l) (λ t. rw t) (λ t. rw t)
 
   pub given-gone : G .gone ≡ P .gone
   unfolding givenBy handed

@@ -52,9 +52,9 @@ pub record Referring (d : Description) (r s c l : ℕ) : Type 0 where
 
 -- ---- a plan
 
--- a row at c with key v is marked
-unfoldable pub markedAt : ℕ → List Bool → (ℕ → Row) → ℕ → Bool
-markedAt n marks B v = ltb (place n B v) n && getD marks (place n B v) false
+-- a row at c with key v is chosen
+unfoldable pub chosenAt : ℕ → List Bool → (ℕ → Row) → ℕ → Bool
+chosenAt n chosen B v = ltb (place n B v) n && getD chosen (place n B v) false
 
 -- what becomes of a cell of class c in column k
 unfoldable pub changeOf : Plan → ℕ → Change
@@ -67,8 +67,8 @@ changeOf P k =
 unfoldable pub aboveOf : Description → ℕ → ℕ → Plan → Rows → Above
 aboveOf d c r P B =
     record {
-      gone = λ s v. eqb s r && (P .gone && (markedAt (rowCount d s) (P .marks) (B s) v && eqb (seek (rowCount d s) (B s) v 1 .class) c));
-      change = λ s v k. if eqb s r && markedAt (rowCount d s) (P .marks) (B s) v then changeOf P k else keep;
+      gone = λ s v. eqb s r && (P .gone && (chosenAt (rowCount d s) (P .chosen) (B s) v && eqb (seek (rowCount d s) (B s) v 1 .class) c));
+      change = λ s v k. if eqb s r && chosenAt (rowCount d s) (P .chosen) (B s) v then changeOf P k else keep;
     }
 
 -- the tables with every level above c reached, and c's own rows as they are
@@ -81,10 +81,10 @@ carriedBelow n d c r P S l = if ltb l n then carried d c r P S l else S l
 
 -- ---- a row of the relation
 
--- the entity of row R has a marked row at c, where B are the rows at c
+-- the entity of row R has a chosen row at c, where B are the rows at c
 unfoldable pub touchedBy : ℕ → List Bool → (ℕ → Row) → Row → Bool
-touchedBy n marks B R =
-    used R && (markedAt n marks B (R 1 .value) && eqb (B (place n B (R 1 .value)) 1 .class) (R 1 .class))
+touchedBy n chosen B R =
+    used R && (chosenAt n chosen B (R 1 .value) && eqb (B (place n B (R 1 .value)) 1 .class) (R 1 .class))
 
 -- what a cell of the subject's class becomes
 unfoldable pub becomes : ℕ → Cell → Cell → Cell
@@ -100,7 +100,7 @@ turned kinds values classes c k x = turnedBy (getD kinds k 0) (cell (getD values
 
 unfoldable pub rowAfter : ℕ → Plan → ℕ → (ℕ → Row) → Row → Row
 rowAfter n P c B R k =
-    if touchedBy n (P .marks) B R then (if P .gone && eqb (R 1 .class) c then nocell else turned (P .kinds) (P .values) (P .classes) c k (R k)) else R k
+    if touchedBy n (P .chosen) B R then (if P .gone && eqb (R 1 .class) c then nocell else turned (P .kinds) (P .values) (P .classes) c k (R k)) else R k
 
 -- a level with the first n rows of relation r, m columns each, as F has them
 unfoldable pub withRows : ℕ → ℕ → ℕ → (ℕ → Row) → Level → Level
@@ -111,7 +111,7 @@ withRows n m r F B = record { rows = λ s j k. if eqb r s && (ltb j n && between
 -- the row with key v at l is emptied
 unfoldable pub goneBy : Description → ℕ → Plan → ℕ → State → ℕ → ℕ → Bool
 goneBy d r P c S l v =
-    P .gone && (markedAt (rowCount d r) (P .marks) (S c .rows r) v
+    P .gone && (chosenAt (rowCount d r) (P .chosen) (S c .rows r) v
     && (eqb (at d (rowsOf S) r c v 1 .class) c && eqb (at d (rowsOf S) r l v 1 .class) c))
 
 -- row R of relation s, which refers to r: a reference whose named row is emptied becomes null, class kept, unless the subject holds it
@@ -145,7 +145,7 @@ lostBy d r P c S l =
 -- the plan with a null of class e in column k
 unfoldable pub handed : Plan → ℕ → ℕ → Plan
 handed P k e =
-    record { marks = P .marks; gone = P .gone; kinds = P .kinds; values = set (P .values) k 0; classes = set (P .classes) k e }
+    record { chosen = P .chosen; gone = P .gone; kinds = P .kinds; values = set (P .values) k 0; classes = set (P .classes) k e }
 
 -- the plan as it is at l
 unfoldable pub givenBy : Description → ℕ → Plan → ℕ → State → ℕ → Plan
@@ -164,12 +164,12 @@ pub record Working (d : Description) (order : List (List Bool)) (r c : ℕ) (S :
   pub beyond : (s l i k : ℕ) → between 1 (columnCount d s) k ≡ false → S l .rows s i k ≡ nocell
   pub one-row : (s l i j : ℕ) → S l .rows s i 1 .value ≢ 0 → S l .rows s i 1 .value ≡ S l .rows s j 1 .value → i ≡ j
 
--- a plan: only rows in use are marked, a cell of the subject's class that is taken is the subject's, and no key is taken
+-- a plan: only rows in use are chosen, a cell of the subject's class that is taken is the subject's, and no key is taken
 pub record Planned (d : Description) (r c : ℕ) (P : Plan) (B : ℕ → Row) : Type 0 where
-  pub marks : length (P .marks) ≡ 64
+  pub chosen : length (P .chosen) ≡ 64
   pub values : length (P .values) ≡ 9
   pub classes : length (P .classes) ≡ 9
-  pub real : (i : ℕ) → i < rowCount d r → getD (P .marks) i false ≡ true → B i 1 .value ≢ 0
+  pub real : (i : ℕ) → i < rowCount d r → getD (P .chosen) i false ≡ true → B i 1 .value ≢ 0
   pub own : (k : ℕ) → getD (P .kinds) k 0 ≡ 1 → getD (P .classes) k 0 ≡ c
   pub key : getD (P .kinds) 1 0 ≢ 1
 

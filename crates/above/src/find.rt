@@ -36,11 +36,11 @@ fn near(
     find(values, description, relation, part, level, key)
 }
 
-// Whether the entity of a row has a marked row at the subject's level.
+// Whether the entity of a row has a chosen row at the subject's level.
 pub(crate) fn touched(
     values: &[u32],
     classes: &[u8],
-    marks: &[bool],
+    chosen: &[bool],
     description: Description,
     relation: usize,
     part: Part,
@@ -49,8 +49,8 @@ pub(crate) fn touched(
     row: usize,
 ) -> bool
     requires { ⌜ Lent description relation part (length (now values)) (length (now classes)) × InRow description relation level row ⌝ }
-    requires { ⌜ InLevel description relation subject × OneRow description (now values) relation subject × (length (now marks) ≡ 64) ⌝ }
-    ensures { λ r. ⌜ r ≡ touchedBy (rowCount description relation) (now (marks .entry)) (stateOf description (holding (now (values .entry)) (now (classes .entry))) subject .rows relation) (stateOf description (holding (now (values .entry)) (now (classes .entry))) level .rows relation row) ⌝ }
+    requires { ⌜ InLevel description relation subject × OneRow description (now values) relation subject × (length (now chosen) ≡ 64) ⌝ }
+    ensures { λ r. ⌜ r ≡ touchedBy (rowCount description relation) (now (chosen .entry)) (stateOf description (holding (now (values .entry)) (now (classes .entry))) subject .rows relation) (stateOf description (holding (now (values .entry)) (now (classes .entry))) level .rows relation row) ⌝ }
 {
     let key = value_at(values, description, relation, part, level, row, 1);
     if key == 0 {
@@ -61,14 +61,14 @@ pub(crate) fn touched(
     if rows <= own {
         return false;
     }
-    if !marks[own] {
+    if !chosen[own] {
         return false;
     }
     let class = class_at(classes, description, relation, part, level, row, 1);
     class_at(classes, description, relation, part, subject, own, 1) == class
 }
 
-// Whether the row with a key at a level is emptied: a marked entity of the subject's own.
+// Whether the row with a key at a level is emptied: a chosen entity of the subject's own.
 pub(crate) fn gone(
     values: &[u32],
     classes: &[u8],
@@ -93,7 +93,7 @@ pub(crate) fn gone(
     if rows <= own {
         return false;
     }
-    if !plan.marks[own] {
+    if !plan.chosen[own] {
         return false;
     }
     if class_at(classes, description, relation, part, at, own, 1) != subject {

@@ -60,14 +60,14 @@ fn hand(plan: Plan, column: usize, null: u8) -> Plan
     requires { ⌜ column < 9 ⌝ }
     ensures { λ r. ⌜ r ≡ handed plan column null ⌝ }
 {
-    let marks = plan.marks;
+    let chosen = plan.chosen;
     let kinds = plan.kinds;
     let mut values = plan.values;
     let mut classes = plan.classes;
     values[column] = 0;
     classes[column] = null;
     Plan {
-        marks: marks,
+        chosen: chosen,
         gone: plan.gone,
         kinds: kinds,
         values: values,

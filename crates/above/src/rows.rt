@@ -132,7 +132,7 @@ fn row(
     kinds: &[u8],
     news: &[u32],
     owners: &[u8],
-    marks: &[bool],
+    chosen: &[bool],
     description: Description,
     relation: usize,
     part: Part,
@@ -142,14 +142,14 @@ fn row(
     row: usize,
 )
     requires { ⌜ Lent description relation part (length (now values)) (length (now classes)) × InRow description relation level row ⌝ }
-    requires { ⌜ InLevel description relation subject × OneRow description (now values) relation subject × Lists (length (now kinds)) (length (now news)) (length (now owners)) × (length (now marks) ≡ 64) ⌝ }
-    ensures { λ _. ⌜ stateOf description (holding (now (values .exit)) (now (classes .exit))) ≡ changeLevel level (withRow (columnCount description relation) relation row (rowAfter (rowCount description relation) (record { marks = now (marks .entry); gone = gone; kinds = now (kinds .entry); values = now (news .entry); classes = now (owners .entry) }) subject (stateOf description (holding (now (values .entry)) (now (classes .entry))) subject .rows relation) (stateOf description (holding (now (values .entry)) (now (classes .entry))) level .rows relation row))) (stateOf description (holding (now (values .entry)) (now (classes .entry)))) ⌝ }
+    requires { ⌜ InLevel description relation subject × OneRow description (now values) relation subject × Lists (length (now kinds)) (length (now news)) (length (now owners)) × (length (now chosen) ≡ 64) ⌝ }
+    ensures { λ _. ⌜ stateOf description (holding (now (values .exit)) (now (classes .exit))) ≡ changeLevel level (withRow (columnCount description relation) relation row (rowAfter (rowCount description relation) (record { chosen = now (chosen .entry); gone = gone; kinds = now (kinds .entry); values = now (news .entry); classes = now (owners .entry) }) subject (stateOf description (holding (now (values .entry)) (now (classes .entry))) subject .rows relation) (stateOf description (holding (now (values .entry)) (now (classes .entry))) level .rows relation row))) (stateOf description (holding (now (values .entry)) (now (classes .entry)))) ⌝ }
 {
     let at = subject as usize;
     if !touched(
         values,
         classes,
-        marks,
+        chosen,
         description,
         relation,
         part,
@@ -197,7 +197,7 @@ pub(crate) fn rows(
     let kinds = plan.kinds;
     let news = plan.values;
     let owners = plan.classes;
-    let marks = plan.marks;
+    let chosen = plan.chosen;
     let gone = plan.gone;
     let rows = part.rows;
     let mut i = 0;
@@ -208,7 +208,7 @@ pub(crate) fn rows(
             &kinds,
             &news,
             &owners,
-            &marks,
+            &chosen,
             description,
             relation,
             part,

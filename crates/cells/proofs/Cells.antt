@@ -15,7 +15,7 @@ use Rattle.bounded.proofs.Reflection.{is-true, is-false, of-true, of-false, and
 use Rattle.model.specs.declared.Description.{Description}
 use Rattle.model.specs.Description.{totalOf, columnCount}
 use Rattle.model.specs.Tables.{Cell, Row, cell, nocell, Level, State}
-use Rattle.model.specs.Buffers.{Buffers, holding, inside, positionOf, stateOf}
+use Rattle.model.specs.Buffers.{Buffers, holding, inside, positionOf, rowsIn, stateOf}
 use Rattle.model.proofs.Border.{Inside, inside-says, inside-shown}
 use Rattle.cells.specs.Layout.{InRow}
 use Rattle.cells.specs.Changed.{numberAt, valueAt, classAt, withCell, withValue, changeLevel}

@@ -1,3 +1,3 @@
-pub mod Marking
+pub mod Choosing
 pub mod Meeting
 pub mod Settled

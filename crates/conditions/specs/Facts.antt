@@ -49,13 +49,13 @@ pub record Asking (d : Description) (order : List (List Bool)) (r : ℕ) (condit
   pub ordered : Ordered d order
   pub formed : conditionsFormed d r conditions ≡ true
 
--- the first n marks say where f is true, and no other is set
-pub record Marked (n : ℕ) (f : ℕ → Bool) (marks : List Bool) : Type 0 where
-  pub long : length marks ≡ 64
-  pub right : (i : ℕ) → i < n → getD marks i false ≡ f i
-  pub rest : (i : ℕ) → n ≤ i → getD marks i false ≡ false
+-- of the first n rows those are chosen where f is true, and no other
+pub record ChosenBy (n : ℕ) (f : ℕ → Bool) (chosen : List Bool) : Type 0 where
+  pub long : length chosen ≡ 64
+  pub right : (i : ℕ) → i < n → getD chosen i false ≡ f i
+  pub rest : (i : ℕ) → n ≤ i → getD chosen i false ≡ false
 
--- the marks of those of n rows that meet one condition more, the other marks as they were
+-- of n rows those stay chosen that meet one condition more; the rest are as they were
 pub record Narrowed (d : Description) (B : ℕ → Row) (n : ℕ) (q : Condition) (before after : List Bool) : Type 0 where
   pub long : length after ≡ 64
   pub right : (i : ℕ) → i < n → getD after i false ≡ (getD before i false && meets d q (B i))
@@ -69,7 +69,7 @@ usedRow d values r l i = not (eqb (valueAt d values r l i 1) 0)
 unfoldable pub metAt : Description → List ℕ → (ℕ → Row) → ℕ → Bool
 metAt d conditions B i = met d conditions (B i)
 
--- n is how many of the first marks are set
-pub record Counted (rows : ℕ) (marks : List Bool) (n : ℕ) : Type 0 where
-  pub is : n ≡ countBelow rows (λ i. getD marks i false)
+-- n is how many of the first rows are chosen
+pub record Counted (rows : ℕ) (chosen : List Bool) (n : ℕ) : Type 0 where
+  pub is : n ≡ countBelow rows (λ i. getD chosen i false)
   pub few : n ≤ rows

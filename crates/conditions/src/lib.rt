@@ -12,7 +12,7 @@ ghost use Rattle.model.specs.Description.{columnCount, rowCount};
 ghost use Rattle.model.specs.Buffers.{holding, stateOf};
 ghost use Rattle.cells.specs.Layout.{Sized, Lent, InRow, InLevel};
 ghost use Rattle.asked.specs.Facts.{Ordered};
-ghost use Rattle.conditions.specs.Facts.{Line, Tested, Asking, Marked, Narrowed, Counted, passesBy, atMost, usedRow, metAt, asks};
+ghost use Rattle.conditions.specs.Facts.{Line, Tested, Asking, ChosenBy, Narrowed, Counted, passesBy, atMost, usedRow, metAt, asks};
 
 // One condition, as it is asked.
 struct Asked {
@@ -165,7 +165,7 @@ fn meets(
     value(asked, x)
 }
 
-// The marks of rows that meet one condition more.
+// Of the chosen rows, those that meet one condition more.
 fn narrow(
     values: &[u32],
     classes: &[u8],
@@ -173,15 +173,15 @@ fn narrow(
     relation: usize,
     part: Part,
     level: usize,
-    marks: [bool; 64],
+    chosen: [bool; 64],
     line: [bool; 16],
     asked: Asked,
 ) -> [bool; 64]
     requires { ⌜ Lent description relation part (length (now values)) (length (now classes)) × InLevel description relation level ⌝ }
     requires { ⌜ Tested description relation (asks asked) line ⌝ }
-    ensures { λ r. ⌜ Narrowed description (stateOf description (holding (now (values .entry)) (now (classes .entry))) level .rows relation) (rowCount description relation) (asks asked) marks r ⌝ }
+    ensures { λ r. ⌜ Narrowed description (stateOf description (holding (now (values .entry)) (now (classes .entry))) level .rows relation) (rowCount description relation) (asks asked) chosen r ⌝ }
 {
-    let mut left = marks;
+    let mut left = chosen;
     let rows = part.rows;
     let mut row = 0;
     while row < rows {
@@ -214,7 +214,7 @@ fn line(description: Description, order: [[bool; 16]; 16], constant: u32) -> [bo
     order[constant as usize]
 }
 
-// The marks of the rows of a level that are in use.
+// The rows of a level that are in use.
 fn used(
     values: &[u32],
     description: Description,
@@ -224,19 +224,19 @@ fn used(
 ) -> [bool; 64]
     requires { ⌜ Sized description relation part (length (now values)) ⌝ }
     requires { ⌜ InLevel description relation level ⌝ }
-    ensures { λ r. ⌜ Marked (rowCount description relation) (usedRow description (now (values .entry)) relation level) r ⌝ }
+    ensures { λ r. ⌜ ChosenBy (rowCount description relation) (usedRow description (now (values .entry)) relation level) r ⌝ }
 {
-    let mut marks = [false; 64];
+    let mut chosen = [false; 64];
     let rows = part.rows;
     let mut row = 0;
     while row < rows {
-        marks[row] = value_at(values, description, relation, part, level, row, 1) != 0;
+        chosen[row] = value_at(values, description, relation, part, level, row, 1) != 0;
         row += 1;
     }
-    marks
+    chosen
 }
 
-// The marks after condition `i` besides.
+// The rows still chosen after condition `i`.
 fn next(
     values: &[u32],
     classes: &[u8],
@@ -246,12 +246,12 @@ fn next(
     relation: usize,
     part: Part,
     level: usize,
-    marks: [bool; 64],
+    chosen: [bool; 64],
     i: usize,
 ) -> [bool; 64]
     requires { ⌜ Lent description relation part (length (now values)) (length (now classes)) × InLevel description relation level ⌝ }
     requires { ⌜ Asking description order relation (now conditions) × (i < conditionCount (now conditions)) ⌝ }
-    ensures { λ r. ⌜ Narrowed description (stateOf description (holding (now (values .entry)) (now (classes .entry))) level .rows relation) (rowCount description relation) (conditionAt (now (conditions .entry)) i) marks r ⌝ }
+    ensures { λ r. ⌜ Narrowed description (stateOf description (holding (now (values .entry)) (now (classes .entry))) level .rows relation) (rowCount description relation) (conditionAt (now (conditions .entry)) i) chosen r ⌝ }
 {
     let asked = read(conditions, i);
     let line = line(description, order, asked.constant);
@@ -262,14 +262,14 @@ fn next(
         relation,
         part,
         level,
-        marks,
+        chosen,
         line,
         asked,
     )
 }
 
-// The marks of the rows of a level that are in use and meet every condition.
-pub fn marks(
+// The rows of a level that are in use.and meet every condition.
+pub fn chosen(
     values: &[u32],
     classes: &[u8],
     conditions: &[u32],
@@ -281,9 +281,9 @@ pub fn marks(
 ) -> [bool; 64]
     requires { ⌜ Lent description relation part (length (now values)) (length (now classes)) × InLevel description relation level ⌝ }
     requires { ⌜ Asking description order relation (now conditions) ⌝ }
-    ensures { λ r. ⌜ Marked (rowCount description relation) (metAt description (now (conditions .entry)) (stateOf description (holding (now (values .entry)) (now (classes .entry))) level .rows relation)) r ⌝ }
+    ensures { λ r. ⌜ ChosenBy (rowCount description relation) (metAt description (now (conditions .entry)) (stateOf description (holding (now (values .entry)) (now (classes .entry))) level .rows relation)) r ⌝ }
 {
-    let mut marks = used(values, description, relation, part, level);
+    let mut chosen = used(values, description, relation, part, level);
     let count = conditions.len() / 4;
     let mut i = 0;
     while i < count {
@@ -296,24 +296,24 @@ pub fn marks(
             relation,
             part,
             level,
-            marks,
+            chosen,
             i,
         );
-        marks = fewer;
+        chosen = fewer;
         i += 1;
     }
-    marks
+    chosen
 }
 
-// How many of the first rows are marked.
-pub fn count(marks: [bool; 64], rows: usize) -> u32
+// How many of the first rows are chosen.
+pub fn count(chosen: [bool; 64], rows: usize) -> u32
     requires { ⌜ rows ≤ 64 ⌝ }
-    ensures { λ r. ⌜ Counted rows marks r ⌝ }
+    ensures { λ r. ⌜ Counted rows chosen r ⌝ }
 {
     let mut count = 0;
     let mut row = 0;
     while row < rows {
-        if marks[row] {
+        if chosen[row] {
             count += 1;
         }
         row += 1;

@@ -28,17 +28,17 @@ use Rattle.cells.specs.declared.layout.Part.{Part}
 use Rattle.cells.specs.Changed.{valueAt, keyPlace, changeLevel}
 use Rattle.cells.proofs.Cells.{state-cell}
 use Rattle.cells.proofs.Sought.{place-key}
-use Rattle.conditions.specs.Facts.{Marked, Counted, metAt}
+use Rattle.conditions.specs.Facts.{ChosenBy, Counted, metAt}
 use Rattle.above.specs.declared.Plan.{Plan}
-use Rattle.above.specs.Facts.{markedAt, changeOf, aboveOf, carried, withRows, Working, Planned}
+use Rattle.above.specs.Facts.{chosenAt, changeOf, aboveOf, carried, withRows, Working, Planned}
 use Rattle.above.proofs.Carried.{carried-own}
 use Rattle.theory.proofs.Seen.{seen-own}
 use Rattle.change.specs.Facts.{Standing, Deletes, refuses, does, sight, metRows}
-use Rattle.marks.specs.Marking.{Chosen, rowMarked, emptyMarked, namesMarked, rowRefers, refersMarked, referredMarked}
+use Rattle.chosen.specs.Choosing.{Chosen, rowChosen, emptyChosen, namesChosen, rowRefers, refersChosen, referredChosen}
 use Rattle.change.proofs.Answers.{first-fails, first-passes, first-none}
 use Rattle.cells.proofs.Counts.{sound-says, relation-is}
 use Rattle.change.proofs.Known.{own-over}
-use Rattle.marks.proofs.Carrying.{left-planned, own-marked, marked-met, mark-met, count-met, working}
+use Rattle.chosen.proofs.Carrying.{left-planned, own-chosen, sought-met, row-met, count-met, working}
 
 -- ---- the plan
 
@@ -62,10 +62,10 @@ module _ (P : Plan) (N : Nulling P) where
     B = S c .rows
 
     abbrev E : Effect
-    E = emptyMarked d c r (P .marks) B
+    E = emptyChosen d c r (P .chosen) B
 
     gone-is : (s v : ℕ) → aboveOf d c r P B .gone s v ≡ E .above .gone s v
-    unfolding aboveOf emptyMarked
+    unfolding aboveOf emptyChosen
     gone-is s v = rw (N .gone)
 
     -- a cell of a level's class stands in a column
@@ -78,32 +78,32 @@ module _ (P : Plan) (N : Nulling P) where
         absurd (omega (arith, z, W .level, sound-says d (W .sound-is) .few-levels)))
 
     changed-is : (s l i k : ℕ) → S l .rows s i k .class ≡ c → aboveOf d c r P B .change s (S l .rows s i 1 .value) k ≡ E .above .change s (S l .rows s i 1 .value) k
-    unfolding aboveOf emptyMarked
+    unfolding aboveOf emptyChosen
     changed-is s l i k e =
         cases (eqb s r)
         (λ t. rw (change-is k (column-few l i k (rw (eqb-true s r t) at e))))
         (λ t. rw t)
 
-    module _ (M : Chosen (rowCount d r) (S c .rows r) (P .marks)) where
+    module _ (M : Chosen (rowCount d r) (S c .rows r) (P .chosen)) where
       past : (i k : ℕ) → between 1 (columnCount d r) k ≡ false → nocell ≡ S c .rows r i k
       past i k e = sym (W .beyond r c i k e)
 
       pub delete-left : {S′ S″ : State} → S′ ≡ carried d c r P S
-          → S″ ≡ changeLevel c (withRows (rowCount d r) (columnCount d r) r (λ i. rowMarked (P .marks) (λ R. norow) i (S′ c .rows r i))) S′
-          → S″ ≡ left d c (some (emptyMarked d c r (P .marks) (S c .rows))) S
-      unfolding emptyMarked
+          → S″ ≡ changeLevel c (withRows (rowCount d r) (columnCount d r) r (λ i. rowChosen (P .chosen) (λ R. norow) i (S′ c .rows r i))) S′
+          → S″ ≡ left d c (some (emptyChosen d c r (P .chosen) (S c .rows))) S
+      unfolding emptyChosen
       delete-left p q =
           q
-          ∙ ap (λ (T : State). changeLevel c (withRows (rowCount d r) (columnCount d r) r (λ i. rowMarked (P .marks) (λ R. norow) i (T c .rows r i))) T) p
-          ∙ ap (λ (D : Level). changeLevel c (withRows (rowCount d r) (columnCount d r) r (λ i. rowMarked (P .marks) (λ R. norow) i (D .rows r i))) (carried d c r P S)) (carried-own d c r P S)
-          ∙ left-planned d c r P S E (withRows (rowCount d r) (columnCount d r) r (λ i. rowMarked (P .marks) (λ R. norow) i (S c .rows r i))) gone-is changed-is
-          (own-marked (rowCount d r) (columnCount d r) r (P .marks) (λ R. norow) (S c) M past)
+          ∙ ap (λ (T : State). changeLevel c (withRows (rowCount d r) (columnCount d r) r (λ i. rowChosen (P .chosen) (λ R. norow) i (T c .rows r i))) T) p
+          ∙ ap (λ (D : Level). changeLevel c (withRows (rowCount d r) (columnCount d r) r (λ i. rowChosen (P .chosen) (λ R. norow) i (D .rows r i))) (carried d c r P S)) (carried-own d c r P S)
+          ∙ left-planned d c r P S E (withRows (rowCount d r) (columnCount d r) r (λ i. rowChosen (P .chosen) (λ R. norow) i (S c .rows r i))) gone-is changed-is
+          (own-chosen (rowCount d r) (columnCount d r) r (P .chosen) (λ R. norow) (S c) M past)
 
       -- the plan is one
       pub delete-planned : Planned d r c P (S c .rows r)
       delete-planned =
           record {
-            marks = M .long;
+            chosen = M .long;
             values = ap length (N .values);
             classes = ap length (N .classes);
             real = M .real;
@@ -121,20 +121,20 @@ module _ (P : Plan) (N : Nulling P) where
 
 -- ---- the effect, by what meets the conditions
 
-pub delete-marked : (d : Description) (c r : ℕ) (conditions : List ℕ) (marks : List Bool) (B : Rows) → Marked (rowCount d r) (metAt d conditions (B r)) marks
-    → ((i : ℕ) → rowCount d r ≤ i → B r i 1 .value ≡ 0) → emptyMarked d c r marks B ≡ deleted d c r conditions B
-unfolding emptyMarked deleted
-delete-marked d c r conditions marks B M out =
+pub delete-chosen : (d : Description) (c r : ℕ) (conditions : List ℕ) (chosen : List Bool) (B : Rows) → ChosenBy (rowCount d r) (metAt d conditions (B r)) chosen
+    → ((i : ℕ) → rowCount d r ≤ i → B r i 1 .value ≡ 0) → emptyChosen d c r chosen B ≡ deleted d c r conditions B
+unfolding emptyChosen deleted
+delete-chosen d c r conditions chosen B M out =
     ap₂ (λ (N : Rows) (A : Above). record { own = N; above = A })
     (fun-ext (λ s. fun-ext (λ i. cases (eqb s r)
-    (λ t. rw (eqb-true s r t, eq-eqb r r refl, mark-met d conditions (rowCount d r) (B r) marks M out i))
+    (λ t. rw (eqb-true s r t, eq-eqb r r refl, row-met d conditions (rowCount d r) (B r) chosen M out i))
     (λ t. rw t))))
     (ap₂ (λ (g : ℕ → ℕ → Bool) (f : ℕ → ℕ → ℕ → Change). record { gone = g; change = f })
     (fun-ext (λ s. fun-ext (λ v. cases (eqb s r)
-    (λ t. rw (eqb-true s r t, eq-eqb r r refl, marked-met d conditions (rowCount d r) (B r) marks M v))
+    (λ t. rw (eqb-true s r t, eq-eqb r r refl, sought-met d conditions (rowCount d r) (B r) chosen M v))
     (λ t. rw t))))
     (fun-ext (λ s. fun-ext (λ v. fun-ext (λ k. cases (eqb s r)
-    (λ t. rw (eqb-true s r t, eq-eqb r r refl, marked-met d conditions (rowCount d r) (B r) marks M v))
+    (λ t. rw (eqb-true s r t, eq-eqb r r refl, sought-met d conditions (rowCount d r) (B r) chosen M v))
     (λ t. rw t))))))
 
 -- ---- its test, and what is answered
@@ -144,13 +144,13 @@ module _ {d : Description} {order : List (List Bool)} {r c : ℕ} {p : Part} {vs
   T = stateOf d (holding vs cs)
 
   -- which rows are met, and whether one of them is referred to
-  module _ {marks : List Bool} (M : Marked (rowCount d r) (metAt d conditions (T c .rows r)) marks) where
+  module _ {chosen : List Bool} (M : ChosenBy (rowCount d r) (metAt d conditions (T c .rows r)) chosen) where
     own : sight d c vs cs c .rows ≡ T c .rows
     own = seen-own d T c (own-over K)
 
-    key-met : (v : ℕ) → (ltb (keyPlace d vs r c v) (rowCount d r) && getD marks (keyPlace d vs r c v) false) ≡ met d conditions (at d (rowsOf T) r c v)
-    unfolding markedAt at
-    key-met v = rw (← (place-key d vs cs r c v)) (marked-met d conditions (rowCount d r) (T c .rows r) marks M v)
+    key-met : (v : ℕ) → (ltb (keyPlace d vs r c v) (rowCount d r) && getD chosen (keyPlace d vs r c v) false) ≡ met d conditions (at d (rowsOf T) r c v)
+    unfolding chosenAt at
+    key-met v = rw (← (place-key d vs cs r c v)) (sought-met d conditions (rowCount d r) (T c .rows r) chosen M v)
 
     -- row i of relation s refers to a row that is met, where B are the rows at c
     abbrev refersIn : Rows → ℕ → ℕ → Bool
@@ -158,33 +158,33 @@ module _ {d : Description} {order : List (List Bool)} {r c : ℕ} {p : Part} {vs
         let v = B s i (foreignOf d s) .value in
         eqb (refersOf d s) r && (not (eqb v 0) && met d conditions (seek (rowCount d r) (B r) v))
 
-    row-is : (s i : ℕ) → rowRefers d vs marks r c s i ≡ refersIn (T c .rows) s i
-    unfolding rowRefers namesMarked at
+    row-is : (s i : ℕ) → rowRefers d vs chosen r c s i ≡ refersIn (T c .rows) s i
+    unfolding rowRefers namesChosen at
     row-is s i = rw (state-cell d vs cs s c i (foreignOf d s), key-met (valueAt d vs s c i (foreignOf d s)))
 
-    named-is : referredMarked d vs marks r c ≡ referred d c r conditions (rowsOf (sight d c vs cs))
-    unfolding referredMarked refersMarked referred at
+    named-is : referredChosen d vs chosen r c ≡ referred d c r conditions (rowsOf (sight d c vs cs))
+    unfolding referredChosen refersChosen referred at
     named-is =
-        any-cong (suc (d .relations)) (refersMarked d vs marks r c) (λ s. anyBelow (rowCount d s) (refersIn (T c .rows) s))
-        (λ s h. any-cong (rowCount d s) (rowRefers d vs marks r c s) (refersIn (T c .rows) s) (λ i g. row-is s i))
+        any-cong (suc (d .relations)) (refersChosen d vs chosen r c) (λ s. anyBelow (rowCount d s) (refersIn (T c .rows) s))
+        (λ s h. any-cong (rowCount d s) (rowRefers d vs chosen r c s) (refersIn (T c .rows) s) (λ i g. row-is s i))
         ∙ ap (λ (B : Rows). anyBelow (suc (d .relations)) (λ s. anyBelow (rowCount d s) (refersIn B s))) (sym own)
 
-    module _ {b : Bool} (z : b ≡ referredMarked d vs marks r c) where
+    module _ {b : Bool} (z : b ≡ referredChosen d vs chosen r c) where
       pub delete-referred : b ≡ true → Deletes d c r conditions vs cs vs cs (Answers.Refused Faults.Referred)
       unfolding deleteTests
       delete-referred t = refuses Faults.Referred (first-fails _ _ (ap not (sym (z ∙ named-is) ∙ t))) refl refl refl
 
-      effect-is : emptyMarked d c r marks (T c .rows) ≡ deleted d c r conditions (sight d c vs cs c .rows)
+      effect-is : emptyChosen d c r chosen (T c .rows) ≡ deleted d c r conditions (sight d c vs cs c .rows)
       effect-is =
-          delete-marked d c r conditions marks (T c .rows) M (λ i h. ap (λ (x : Cell). x .value) (working K .outside r c i 1 h))
+          delete-chosen d c r conditions chosen (T c .rows) M (λ i h. ap (λ (x : Cell). x .value) (working K .outside r c i 1 h))
           ∙ ap (deleted d c r conditions) (sym own)
 
-      counted : {count : ℕ} → Counted (p .rows) marks count → count ≡ metRows d c r conditions (sight d c vs cs)
+      counted : {count : ℕ} → Counted (p .rows) chosen count → count ≡ metRows d c r conditions (sight d c vs cs)
       unfolding metRows
-      counted C = rw own (count-met d conditions (rowCount d r) (T c .rows r) marks M (rw (K .laid .rows) at C))
+      counted C = rw own (count-met d conditions (rowCount d r) (T c .rows r) chosen M (rw (K .laid .rows) at C))
 
-      pub delete-done : b ≡ false → {count : ℕ} → Counted (p .rows) marks count → {us ds : List ℕ}
-          → stateOf d (holding us ds) ≡ left d c (some (emptyMarked d c r marks (T c .rows))) T → Deletes d c r conditions vs cs us ds (Answers.Done count)
+      pub delete-done : b ≡ false → {count : ℕ} → Counted (p .rows) chosen count → {us ds : List ℕ}
+          → stateOf d (holding us ds) ≡ left d c (some (emptyChosen d c r chosen (T c .rows))) T → Deletes d c r conditions vs cs us ds (Answers.Done count)
       unfolding deleteTests
       delete-done t C m =
           does (first-passes _ _ (ap not (sym (z ∙ named-is) ∙ t)) ∙ first-none) (ap Answers.Done (counted C))

@@ -1,4 +1,4 @@
--- What refers to a marked row: key, row and relation.
+-- What refers to a chosen row: key, row and relation.
 -- Assumes nothing.
 use Prim.Native.Nat.{ℕ, suc, _+_, _≤_, _<_}
 use mathlib.Core.Path.{_≡_, refl, sym}
@@ -17,46 +17,46 @@ use Rattle.model.proofs.Sound.{Reference}
 use Rattle.model.proofs.Border.{inside-shown}
 use Rattle.cells.specs.Changed.{valueAt, keyPlace}
 use Rattle.change.specs.Facts.{Naming}
-use Rattle.marks.specs.Marking.{namesMarked, rowRefers, refersMarked, referredMarked}
+use Rattle.chosen.specs.Choosing.{namesChosen, rowRefers, refersChosen, referredChosen}
 use Rattle.cells.proofs.Counts.{relation-is, in-level}
 
-module _ (d : Description) (vs : List ℕ) (marks : List Bool) (r c : ℕ) where
+module _ (d : Description) (vs : List ℕ) (chosen : List Bool) (r c : ℕ) where
   -- ---- a key
 
   module _ (v : ℕ) where
-    pub names-null : v ≡ 0 → false ≡ namesMarked d vs marks r c v
-    unfolding namesMarked
+    pub names-null : v ≡ 0 → false ≡ namesChosen d vs chosen r c v
+    unfolding namesChosen
     names-null e = rw (eq-eqb v 0 e)
 
     module _ (n : v ≢ 0) {i m : ℕ} (e : i ≡ keyPlace d vs r c v) (q : m ≡ rowCount d r) where
-      pub names-nowhere : m ≤ i → false ≡ namesMarked d vs marks r c v
-      unfolding namesMarked
+      pub names-nowhere : m ≤ i → false ≡ namesChosen d vs chosen r c v
+      unfolding namesChosen
       names-nowhere h = rw (ne-eqb v 0 n, ← e, ← q, le-ltb i m h)
 
-      pub names-there : i < m → getD marks i false ≡ namesMarked d vs marks r c v
-      unfolding namesMarked
+      pub names-there : i < m → getD chosen i false ≡ namesChosen d vs chosen r c v
+      unfolding namesChosen
       names-there h = rw (ne-eqb v 0 n, ← e, ← q, lt-ltb i m h)
 
   -- ---- a row of a relation
 
   module _ (s : ℕ) where
     -- it refers to another
-    pub refers-other : refersOf d s ≢ r → false ≡ refersMarked d vs marks r c s
-    unfolding refersMarked rowRefers
-    refers-other n = sym (any-of-none (rowCount d s) (rowRefers d vs marks r c s) (λ i h. rw (ne-eqb (refersOf d s) r n)))
+    pub refers-other : refersOf d s ≢ r → false ≡ refersChosen d vs chosen r c s
+    unfolding refersChosen rowRefers
+    refers-other n = sym (any-of-none (rowCount d s) (rowRefers d vs chosen r c s) (λ i h. rw (ne-eqb (refersOf d s) r n)))
 
-    pub row-refers : (i : ℕ) → refersOf d s ≡ r → {k v : ℕ} {b : Bool} → k ≡ foreignOf d s → v ≡ valueAt d vs s c i k → b ≡ namesMarked d vs marks r c v
-        → b ≡ rowRefers d vs marks r c s i
+    pub row-refers : (i : ℕ) → refersOf d s ≡ r → {k v : ℕ} {b : Bool} → k ≡ foreignOf d s → v ≡ valueAt d vs s c i k → b ≡ namesChosen d vs chosen r c v
+        → b ≡ rowRefers d vs chosen r c s i
     unfolding rowRefers
     row-refers i e f g h = rw (eq-eqb (refersOf d s) r e, ← f, ← g) h
 
-    pub refers-here : (i : ℕ) {b : Bool} → b ≡ rowRefers d vs marks r c s i → b ≡ true → i < rowCount d s → true ≡ refersMarked d vs marks r c s
-    unfolding refersMarked
-    refers-here i e t h = sym (any-here (rowCount d s) i (rowRefers d vs marks r c s) e t h)
+    pub refers-here : (i : ℕ) {b : Bool} → b ≡ rowRefers d vs chosen r c s i → b ≡ true → i < rowCount d s → true ≡ refersChosen d vs chosen r c s
+    unfolding refersChosen
+    refers-here i e t h = sym (any-here (rowCount d s) i (rowRefers d vs chosen r c s) e t h)
 
-    pub refers-none : (i : ℕ) → anyBelow i (rowRefers d vs marks r c s) ≡ false → i ≤ rowCount d s → rowCount d s ≤ i → false ≡ refersMarked d vs marks r c s
-    unfolding refersMarked
-    refers-none i e h g = sym (any-end (rowCount d s) i (rowRefers d vs marks r c s) e h g)
+    pub refers-none : (i : ℕ) → anyBelow i (rowRefers d vs chosen r c s) ≡ false → i ≤ rowCount d s → rowCount d s ≤ i → false ≡ refersChosen d vs chosen r c s
+    unfolding refersChosen
+    refers-none i e h g = sym (any-end (rowCount d s) i (rowRefers d vs chosen r c s) e h g)
 
   -- ---- a relation
 
@@ -64,17 +64,17 @@ module _ (d : Description) (vs : List ℕ) (marks : List Bool) (r c : ℕ) where
   unfolding rowCount ofRelation isRelation between
   no-rows = refl
 
-  pub referred-start : anyBelow 1 (refersMarked d vs marks r c) ≡ false
-  unfolding refersMarked
-  referred-start = any-more 0 (refersMarked d vs marks r c) (any-start (refersMarked d vs marks r c)) refl (rw no-rows (any-start (rowRefers d vs marks r c 0)))
+  pub referred-start : anyBelow 1 (refersChosen d vs chosen r c) ≡ false
+  unfolding refersChosen
+  referred-start = any-more 0 (refersChosen d vs chosen r c) (any-start (refersChosen d vs chosen r c)) refl (rw no-rows (any-start (rowRefers d vs chosen r c 0)))
 
-  pub referred-here : (s : ℕ) {b : Bool} → b ≡ refersMarked d vs marks r c s → b ≡ true → s ≤ d .relations → true ≡ referredMarked d vs marks r c
-  unfolding referredMarked
-  referred-here s e t h = sym (any-here (suc (d .relations)) s (refersMarked d vs marks r c) e t (omega arith))
+  pub referred-here : (s : ℕ) {b : Bool} → b ≡ refersChosen d vs chosen r c s → b ≡ true → s ≤ d .relations → true ≡ referredChosen d vs chosen r c
+  unfolding referredChosen
+  referred-here s e t h = sym (any-here (suc (d .relations)) s (refersChosen d vs chosen r c) e t (omega arith))
 
-  pub referred-none : (n : ℕ) → anyBelow n (refersMarked d vs marks r c) ≡ false → n ≤ d .relations + 1 → d .relations < n → false ≡ referredMarked d vs marks r c
-  unfolding referredMarked
-  referred-none n e h g = sym (any-end (suc (d .relations)) n (refersMarked d vs marks r c) e (omega arith) (omega arith))
+  pub referred-none : (n : ℕ) → anyBelow n (refersChosen d vs chosen r c) ≡ false → n ≤ d .relations + 1 → d .relations < n → false ≡ referredChosen d vs chosen r c
+  unfolding referredChosen
+  referred-none n e h g = sym (any-end (suc (d .relations)) n (refersChosen d vs chosen r c) e (omega arith) (omega arith))
 
 -- the cell of a reference
 pub reference-inside : (d : Description) (r s c n : ℕ) → Naming d s c n → 0 < r → refersOf d s ≡ r → (i : ℕ) → i < rowCount d s → inside d s c i (foreignOf d s) ≡ true

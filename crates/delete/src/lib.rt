@@ -6,8 +6,8 @@ use cells::layout::lay;
 use cells::read::value_at;
 use cells::search::find;
 use cells::write::clear;
+use conditions::chosen;
 use conditions::count;
-use conditions::marks;
 use model::Answer;
 use model::Description;
 use model::Fault;
@@ -25,21 +25,21 @@ ghost use Rattle.cells.specs.Layout.{Sized, Lent, InLevel, InRow};
 ghost use Rattle.cells.specs.Changed.{changeLevel, withRow};
 ghost use Rattle.above.specs.Facts.{withRows};
 ghost use Rattle.change.specs.Facts.{Standing, Naming, Deletes};
-ghost use Rattle.marks.specs.Marking.{Chosen, rowMarked, emptyMarked, namesMarked, refersMarked, referredMarked};
+ghost use Rattle.chosen.specs.Choosing.{Chosen, rowChosen, emptyChosen, namesChosen, refersChosen, referredChosen};
 
-// Whether a row of a relation at the subject's level refers to a marked row.
+// Whether a row of a relation at the subject's level refers to a chosen row.
 fn refers(
     values: &[u32],
     description: Description,
     referrer: usize,
     relation: usize,
     part: Part,
-    marks: [bool; 64],
+    chosen: [bool; 64],
     level: usize,
 ) -> bool
     requires { ⌜ Sized description relation part (length (now values)) × InLevel description relation level ⌝ }
     requires { ⌜ Naming description referrer level (length (now values)) × (0 < relation) ⌝ }
-    ensures { λ r. ⌜ r ≡ refersMarked description (now (values .entry)) marks relation level referrer ⌝ }
+    ensures { λ r. ⌜ r ≡ refersChosen description (now (values .entry)) chosen relation level referrer ⌝ }
 {
     if description.refers[referrer] as usize != relation {
         return false;
@@ -50,7 +50,7 @@ fn refers(
     let mut row = 0;
     while row < rows {
         let key = value_at(values, description, referrer, place, level, row, column);
-        if names(values, description, relation, part, marks, level, key) {
+        if names(values, description, relation, part, chosen, level, key) {
             return true;
         }
         row += 1;
@@ -58,19 +58,19 @@ fn refers(
     false
 }
 
-// Whether the row with a key is marked.
+// Whether the row with a key is chosen.
 fn names(
     values: &[u32],
     description: Description,
     relation: usize,
     part: Part,
-    marks: [bool; 64],
+    chosen: [bool; 64],
     level: usize,
     key: u32,
 ) -> bool
     requires { ⌜ Sized description relation part (length (now values)) ⌝ }
     requires { ⌜ InLevel description relation level ⌝ }
-    ensures { λ r. ⌜ r ≡ namesMarked description (now (values .entry)) marks relation level key ⌝ }
+    ensures { λ r. ⌜ r ≡ namesChosen description (now (values .entry)) chosen relation level key ⌝ }
 {
     if key == 0 {
         return false;
@@ -79,7 +79,7 @@ fn names(
     if part.rows <= row {
         return false;
     }
-    marks[row]
+    chosen[row]
 }
 
 // Whether a row at the subject's level refers to a row to be emptied.
@@ -88,17 +88,17 @@ fn referred(
     description: Description,
     relation: usize,
     part: Part,
-    marks: [bool; 64],
+    chosen: [bool; 64],
     level: usize,
 ) -> bool
     requires { ⌜ Sized description relation part (length (now values)) × InLevel description relation level ⌝ }
     requires { ⌜ Naming description relation level (length (now values)) ⌝ }
-    ensures { λ r. ⌜ r ≡ referredMarked description (now (values .entry)) marks relation level ⌝ }
+    ensures { λ r. ⌜ r ≡ referredChosen description (now (values .entry)) chosen relation level ⌝ }
 {
     let relations = description.relations as usize;
     let mut at = 1;
     while at <= relations {
-        if refers(values, description, at, relation, part, marks, level) {
+        if refers(values, description, at, relation, part, chosen, level) {
             return true;
         }
         at += 1;
@@ -106,22 +106,22 @@ fn referred(
     false
 }
 
-// A row is emptied, where it is marked.
+// A row is emptied, where it is chosen.
 fn row(
     values: &mut [u32],
     classes: &mut [u8],
     description: Description,
     relation: usize,
     part: Part,
-    marks: [bool; 64],
+    chosen: [bool; 64],
     level: usize,
     row: usize,
 )
     requires { ⌜ Lent description relation part (length (now values)) (length (now classes)) ⌝ }
     requires { ⌜ InRow description relation level row ⌝ }
-    ensures { λ _. ⌜ stateOf description (holding (now (values .exit)) (now (classes .exit))) ≡ changeLevel level (withRow (columnCount description relation) relation row (rowMarked marks (λ R. norow) row (stateOf description (holding (now (values .entry)) (now (classes .entry))) level .rows relation row))) (stateOf description (holding (now (values .entry)) (now (classes .entry)))) ⌝ }
+    ensures { λ _. ⌜ stateOf description (holding (now (values .exit)) (now (classes .exit))) ≡ changeLevel level (withRow (columnCount description relation) relation row (rowChosen chosen (λ R. norow) row (stateOf description (holding (now (values .entry)) (now (classes .entry))) level .rows relation row))) (stateOf description (holding (now (values .entry)) (now (classes .entry)))) ⌝ }
 {
-    if !marks[row] {
+    if !chosen[row] {
         return;
     }
     clear(values, classes, description, relation, part, level, row);
@@ -134,12 +134,12 @@ fn rows(
     description: Description,
     relation: usize,
     part: Part,
-    marks: [bool; 64],
+    chosen: [bool; 64],
     level: usize,
 )
     requires { ⌜ Lent description relation part (length (now values)) (length (now classes)) ⌝ }
     requires { ⌜ InLevel description relation level ⌝ }
-    ensures { λ _. ⌜ stateOf description (holding (now (values .exit)) (now (classes .exit))) ≡ changeLevel level (withRows (rowCount description relation) (columnCount description relation) relation (λ i. rowMarked marks (λ R. norow) i (stateOf description (holding (now (values .entry)) (now (classes .entry))) level .rows relation i))) (stateOf description (holding (now (values .entry)) (now (classes .entry)))) ⌝ }
+    ensures { λ _. ⌜ stateOf description (holding (now (values .exit)) (now (classes .exit))) ≡ changeLevel level (withRows (rowCount description relation) (columnCount description relation) relation (λ i. rowChosen chosen (λ R. norow) i (stateOf description (holding (now (values .entry)) (now (classes .entry))) level .rows relation i))) (stateOf description (holding (now (values .entry)) (now (classes .entry)))) ⌝ }
 {
     let rows = part.rows;
     let mut i = 0;
@@ -150,7 +150,7 @@ fn rows(
             description,
             relation,
             part,
-            marks,
+            chosen,
             level,
             i,
         );
@@ -158,7 +158,7 @@ fn rows(
     }
 }
 
-// The marked rows are emptied: first what is above, then those at the subject's level.
+// The chosen rows are emptied: first what is above, then those at the subject's level.
 fn write(
     values: &mut [u32],
     classes: &mut [u8],
@@ -166,18 +166,18 @@ fn write(
     order: [[bool; 16]; 16],
     relation: usize,
     part: Part,
-    marks: [bool; 64],
+    chosen: [bool; 64],
     level: usize,
 )
     requires { ⌜ Standing description order relation level part (now values) (now classes) ⌝ }
-    requires { ⌜ Chosen (rowCount description relation) (stateOf description (holding (now values) (now classes)) level .rows relation) marks ⌝ }
-    ensures { λ _. ⌜ stateOf description (holding (now (values .exit)) (now (classes .exit))) ≡ left description level (some (emptyMarked description level relation marks (stateOf description (holding (now (values .entry)) (now (classes .entry))) level .rows))) (stateOf description (holding (now (values .entry)) (now (classes .entry)))) ⌝ }
+    requires { ⌜ Chosen (rowCount description relation) (stateOf description (holding (now values) (now classes)) level .rows relation) chosen ⌝ }
+    ensures { λ _. ⌜ stateOf description (holding (now (values .exit)) (now (classes .exit))) ≡ left description level (some (emptyChosen description level relation chosen (stateOf description (holding (now (values .entry)) (now (classes .entry))) level .rows))) (stateOf description (holding (now (values .entry)) (now (classes .entry)))) ⌝ }
 {
     let kinds = [2u8; 9];
     let news = [0u32; 9];
     let owners = [255u8; 9];
     let plan = Plan {
-        marks: marks,
+        chosen: chosen,
         gone: true,
         kinds: kinds,
         values: news,
@@ -193,7 +193,7 @@ fn write(
         plan,
         level,
     );
-    rows(values, classes, description, relation, part, marks, level);
+    rows(values, classes, description, relation, part, chosen, level);
 }
 
 // The test; then the rows above, and the rows at the subject's level.
@@ -211,7 +211,7 @@ pub fn delete(
     requires { ⌜ conditionsFormed description relation (now conditions) ≡ true ⌝ }
     ensures { λ r. ⌜ Deletes description level relation (now (conditions .entry)) (now (values .entry)) (now (classes .entry)) (now (values .exit)) (now (classes .exit)) r ⌝ }
 {
-    let marks = marks(
+    let chosen = chosen(
         values,
         classes,
         conditions,
@@ -221,10 +221,10 @@ pub fn delete(
         part,
         level,
     );
-    if referred(values, description, relation, part, marks, level) {
+    if referred(values, description, relation, part, chosen, level) {
         return Answer::Refused(Fault::Referred);
     }
-    let count = count(marks, part.rows);
+    let count = count(chosen, part.rows);
     write(
         values,
         classes,
@@ -232,7 +232,7 @@ pub fn delete(
         order,
         relation,
         part,
-        marks,
+        chosen,
         level,
     );
     Answer::Done { count: count }

@@ -21,7 +21,7 @@ use Rattle.model.specs.Tables.{Row, State, seen}
 use Rattle.model.specs.Listed.{among, eachLevel}
 use Rattle.model.specs.Select.{Shown, asked, foundAt, found}
 use Rattle.theory.proofs.Seen.{seen-level}
-use Rattle.conditions.specs.Facts.{metAt, Marked, Counted}
+use Rattle.conditions.specs.Facts.{metAt, ChosenBy, Counted}
 use Rattle.select.specs.declared.At.{At}
 use Rattle.select.specs.declared.Levels.{Levels}
 use Rattle.select.specs.Facts.{wanted, levelAt, levelsAt, shownLevels, Holds, levelFound, foundIn, rowShown, Room, Wrote}
@@ -50,11 +50,11 @@ module _ (d : Description) (r : ℕ) (conditions : List ℕ) (S : State) (l : �
       length-append (concatBelow n (rowFound d r conditions S l)) (rowFound d r conditions S l n)
       ∙ ap₂ _+_ (rows-length n) (row-length d r (S l .rows r) l (metAt d conditions (S l .rows r) n) n)
 
-  found-count : {n k : ℕ} {marks : List Bool} → Marked (rowCount d r) (metAt d conditions (S l .rows r)) marks → n ≡ rowCount d r → Counted n marks k → k ≡ length (foundAt d r conditions S l)
-  found-count {n} {k} {marks} m e c =
+  found-count : {n k : ℕ} {chosen : List Bool} → ChosenBy (rowCount d r) (metAt d conditions (S l .rows r)) chosen → n ≡ rowCount d r → Counted n chosen k → k ≡ length (foundAt d r conditions S l)
+  found-count {n} {k} {chosen} m e c =
       c .is
-      ∙ ap (λ (j : ℕ). countBelow j (λ i. getD marks i false)) e
-      ∙ count-cong (rowCount d r) (λ i. getD marks i false) (metAt d conditions (S l .rows r)) (m .right)
+      ∙ ap (λ (j : ℕ). countBelow j (λ i. getD chosen i false)) e
+      ∙ count-cong (rowCount d r) (λ i. getD chosen i false) (metAt d conditions (S l .rows r)) (m .right)
       ∙ sym (ap length found-rows ∙ rows-length (rowCount d r))
 
   found-wide : Wide (columnCount d r) (foundAt d r conditions S l)
@@ -67,22 +67,22 @@ unfolding foundIn levelFound
 found-in-wide d r conditions S v =
     wide-concat (v .count) (levelFound d r conditions S v) (λ i. found-wide d r conditions S (getD (v .levels) i 0))
 
-pub level-count : (d : Description) (r : ℕ) (conditions : List ℕ) (S : State) (v : Levels) (i : ℕ) {n k : ℕ} {marks : List Bool}
-    → Marked (rowCount d r) (metAt d conditions (S (getD (v .levels) i 0) .rows r)) marks → n ≡ rowCount d r → Counted n marks k → k ≡ length (levelFound d r conditions S v i)
+pub level-count : (d : Description) (r : ℕ) (conditions : List ℕ) (S : State) (v : Levels) (i : ℕ) {n k : ℕ} {chosen : List Bool}
+    → ChosenBy (rowCount d r) (metAt d conditions (S (getD (v .levels) i 0) .rows r)) chosen → n ≡ rowCount d r → Counted n chosen k → k ≡ length (levelFound d r conditions S v i)
 unfolding levelFound
 level-count d r conditions S v i = found-count d r conditions S (getD (v .levels) i 0)
 
--- a row that is marked is one that is found
+-- a row that is chosen is one that is found
 module _ (d : Description) (r : ℕ) (conditions : List ℕ) (S : State) (l : ℕ) {n : ℕ} (e : n ≡ rowCount d r) {a b : At} {s o s′ o′ : List ℕ} where
   pub show-end : {m : ℕ} → Wrote (concatBelow m (rowFound d r conditions S l)) a b s o s′ o′ → m ≤ n → n ≤ m → Wrote (foundAt d r conditions S l) a b s o s′ o′
   show-end {m} w h k =
       rw found-rows (wrote-end (rowCount d r) m (rowFound d r conditions S l) w (omega arith) (omega arith))
 
-  module _ {marks : List Bool} (i : ℕ) (m : Marked (rowCount d r) (metAt d conditions (S l .rows r)) marks) (small : i < n) (room : Room (foundAt d r conditions S l) a (length s) (length o))
+  module _ {chosen : List Bool} (i : ℕ) (m : ChosenBy (rowCount d r) (metAt d conditions (S l .rows r)) chosen) (small : i < n) (room : Room (foundAt d r conditions S l) a (length s) (length o))
       (w : Wrote (concatBelow i (rowFound d r conditions S l)) a b s o s′ o′) where
-    marked : rowShown d r (S l .rows r) l (getD marks i false) i ≡ rowFound d r conditions S l i
+    chosen : rowShown d r (S l .rows r) l (getD chosen i false) i ≡ rowFound d r conditions S l i
     unfolding rowFound
-    marked = rw (m .right i (omega arith))
+    chosen = rw (m .right i (omega arith))
 
     below : i < rowCount d r
     below = omega arith
@@ -90,12 +90,12 @@ module _ (d : Description) (r : ℕ) (conditions : List ℕ) (S : State) (l : �
     whole : Room (concatBelow (rowCount d r) (rowFound d r conditions S l)) a (length s) (length o)
     whole = rw found-rows at room
 
-    pub show-room : length s′ ≡ length s → length o′ ≡ length o → Room (rowShown d r (S l .rows r) l (getD marks i false) i) b (length s′) (length o′)
-    show-room f g = rw marked (room-at (rowFound d r conditions S l) (rowCount d r) i below whole w f g)
+    pub show-room : length s′ ≡ length s → length o′ ≡ length o → Room (rowShown d r (S l .rows r) l (getD chosen i false) i) b (length s′) (length o′)
+    show-room f g = rw chosen (room-at (rowFound d r conditions S l) (rowCount d r) i below whole w f g)
 
-    pub show-next : {c : At} {s″ o″ : List ℕ} → Wrote (rowShown d r (S l .rows r) l (getD marks i false) i) b c s′ o′ s″ o″
+    pub show-next : {c : At} {s″ o″ : List ℕ} → Wrote (rowShown d r (S l .rows r) l (getD chosen i false) i) b c s′ o′ s″ o″
         → Wrote (concatBelow (i + 1) (rowFound d r conditions S l)) a c s o s″ o″
-    show-next q = wrote-next (rowFound d r conditions S l) (rowCount d r) i below whole w (rw marked at q)
+    show-next q = wrote-next (rowFound d r conditions S l) (rowCount d r) i below whole w (rw chosen at q)
 
 -- ---- level by level
 

@@ -150,7 +150,7 @@ wrote-more xs ys {a} {b} {c} {s} {o} h p q =
           ∙ ap (λ (x : List ℕ). writeAt (a .owners) x o) (sym (owners-append xs ys));
     }
 
--- ---- one row, where it is marked
+-- ---- one row, where it is chosen
 
 module _ (d : Description) (r : ℕ) (B : ℕ → Row) (l i : ℕ) {b : Bool} (at : At) where
   row-values : b ≡ true → length (valuesShown (rowShown d r B l b i)) ≡ columnCount d r
@@ -167,14 +167,14 @@ module _ (d : Description) (r : ℕ) (B : ℕ → Row) (l i : ℕ) {b : Bool} (a
   pub room-owners : {m n : ℕ} → b ≡ true → Room (rowShown d r B l b i) at m n → at .owners + columnCount d r < n
   room-owners t h = omega (arith, h .owners, row-owners t)
 
-  pub wrote-unmarked : (s o : List ℕ) → b ≡ false → Wrote (rowShown d r B l b i) at at s o s o
+  pub wrote-unchosen : (s o : List ℕ) → b ≡ false → Wrote (rowShown d r B l b i) at at s o s o
   unfolding rowShown
-  wrote-unmarked s o f = rw f (wrote-none at s o)
+  wrote-unchosen s o f = rw f (wrote-none at s o)
 
-pub wrote-marked : (d : Description) (vs cs : List ℕ) (r l i k : ℕ) (at : At) {b : Bool} {s o s′ o′ : List ℕ} → b ≡ true → k ≡ columnCount d r
+pub wrote-chosen : (d : Description) (vs cs : List ℕ) (r l i k : ℕ) (at : At) {b : Bool} {s o s′ o′ : List ℕ} → b ≡ true → k ≡ columnCount d r
     → s′ ≡ writeAt (at .values) (valuesOf d vs r l i) s → o′ ≡ writeAt (at .owners) (ownersOf d cs r l i) o
     → Wrote (rowShown d r (stateOf d (holding vs cs) l .rows r) l b i) at (record { values = at .values + k; owners = at .owners + k + 1 }) s o s′ o′
-wrote-marked d vs cs r l i k at {b} {s} {o} t e p q = rw t (record {
+wrote-chosen d vs cs r l i k at {b} {s} {o} t e p q = rw t (record {
   values-to = omega (arith, row-values d r (B d vs cs r l i) l i at refl);
   owners-to = omega (arith, row-owners d r (B d vs cs r l i) l i at refl);
   values-is = p ∙ ap (λ (x : List ℕ). writeAt (at .values) x s) (values-row d vs cs r l i);

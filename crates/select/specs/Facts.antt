@@ -70,9 +70,9 @@ valuesOf d values r l i = listBelow (columnCount d r) (λ k. valueAt d values r 
 unfoldable pub ownersOf : Description → List ℕ → ℕ → ℕ → ℕ → List ℕ
 ownersOf d classes r l i = listBelow (columnCount d r) (λ k. classAt d classes r l i (suc k)) ++ (l ∷ [])
 
--- row i of level l, whose rows are B, where it is marked
+-- row i of level l, whose rows are B, where it is chosen
 unfoldable pub rowShown : Description → ℕ → (ℕ → Row) → ℕ → Bool → ℕ → List Shown
-rowShown d r B l marked i = if marked then record { tc = l; cells = listBelow (columnCount d r) (λ k. B i (suc k)) } ∷ [] else []
+rowShown d r B l chosen i = if chosen then record { tc = l; cells = listBelow (columnCount d r) (λ k. B i (suc k)) } ∷ [] else []
 
 -- the start of both buffers
 abbrev pub start : At

@@ -6,8 +6,8 @@ use asked::levels::seen;
 use cells::layout::Part;
 use cells::read::class_at;
 use cells::read::value_at;
+use conditions::chosen;
 use conditions::count;
-use conditions::marks;
 use level::Label;
 use model::Answer;
 use model::Description;
@@ -134,7 +134,7 @@ fn rows(
     let mut rows = 0;
     let mut i = 0;
     while i < total {
-        let marks = marks(
+        let chosen = chosen(
             values,
             classes,
             conditions,
@@ -144,7 +144,7 @@ fn rows(
             part,
             laid.levels[i] as usize,
         );
-        rows += count(marks, part.rows);
+        rows += count(chosen, part.rows);
         i += 1;
     }
     rows
@@ -203,7 +203,7 @@ fn own(
     owners[at.owners + last] = level as u8;
 }
 
-// A row where it is marked; where the next goes.
+// A row where it is chosen; where the next goes.
 fn put(
     values: &[u32],
     classes: &[u8],
@@ -214,14 +214,14 @@ fn put(
     part: Part,
     level: usize,
     row: usize,
-    marked: bool,
+    chosen: bool,
     at: At,
 ) -> At
     requires { ⌜ Lent d relation part (length (now values)) (length (now classes)) × (InRow d relation level row × (level < 16)) ⌝ }
-    requires { ⌜ Room (rowShown d relation (stateOf d (holding (now values) (now classes)) level .rows relation) level marked row) at (length (now shown)) (length (now owners)) ⌝ }
-    ensures { λ r. ⌜ Wrote (rowShown d relation (stateOf d (holding (now (values .entry)) (now (classes .entry))) level .rows relation) level marked row) at r (now (shown .entry)) (now (owners .entry)) (now (shown .exit)) (now (owners .exit)) ⌝ }
+    requires { ⌜ Room (rowShown d relation (stateOf d (holding (now values) (now classes)) level .rows relation) level chosen row) at (length (now shown)) (length (now owners)) ⌝ }
+    ensures { λ r. ⌜ Wrote (rowShown d relation (stateOf d (holding (now (values .entry)) (now (classes .entry))) level .rows relation) level chosen row) at r (now (shown .entry)) (now (owners .entry)) (now (shown .exit)) (now (owners .exit)) ⌝ }
 {
-    if !marked {
+    if !chosen {
         return at;
     }
     copy(values, shown, d, relation, part, level, row, at);
@@ -250,7 +250,7 @@ fn show(
     requires { ⌜ Room (foundAt d relation (now conditions) (stateOf d (holding (now values) (now classes))) level) before (length (now shown)) (length (now owners)) ⌝ }
     ensures { λ r. ⌜ Wrote (foundAt d relation (now (conditions .entry)) (stateOf d (holding (now (values .entry)) (now (classes .entry)))) level) before r (now (shown .entry)) (now (owners .entry)) (now (shown .exit)) (now (owners .exit)) ⌝ }
 {
-    let marks = marks(values, classes, conditions, d, order, relation, part, level);
+    let chosen = chosen(values, classes, conditions, d, order, relation, part, level);
     let rows = part.rows;
     let mut at = before;
     let mut row = 0;
@@ -265,7 +265,7 @@ fn show(
             part,
             level,
             row,
-            marks[row],
+            chosen[row],
             at,
         );
         row += 1;

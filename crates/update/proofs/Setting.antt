@@ -31,7 +31,7 @@ use Rattle.cells.proofs.Changes.{level-path, change-same, change-on}
 use Rattle.asked.specs.declared.pairs.Rule.the-variants as Rules
 use Rattle.asked.specs.Facts.{Found, ruleOf}
 use Rattle.change.specs.Facts.{valueListed}
-use Rattle.marks.specs.Marking.{Listing, ByColumn, kindListed}
+use Rattle.chosen.specs.Choosing.{Listing, ByColumn, kindListed}
 
 -- ---- a column among the first pairs
 

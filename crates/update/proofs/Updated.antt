@@ -34,16 +34,16 @@ use Rattle.cells.specs.declared.layout.Part.{Part}
 use Rattle.cells.specs.Changed.{changeLevel}
 use Rattle.asked.specs.declared.pairs.Rule.the-variants as Rules
 use Rattle.asked.specs.Facts.{ruleOf}
-use Rattle.conditions.specs.Facts.{Marked, Counted, metAt}
+use Rattle.conditions.specs.Facts.{ChosenBy, Counted, metAt}
 use Rattle.above.specs.declared.Plan.{Plan}
 use Rattle.above.specs.Facts.{changeOf, aboveOf, carried, withRows, Planned}
 use Rattle.above.proofs.Carried.{carried-own}
 use Rattle.theory.proofs.Seen.{seen-own}
 use Rattle.change.specs.Facts.{Standing, Updates, refuses, does, sight, metRows, valueListed}
-use Rattle.marks.specs.Marking.{Listing, ByColumn, Chosen, kindListed, rowMarked, setMarked}
+use Rattle.chosen.specs.Choosing.{Listing, ByColumn, Chosen, kindListed, rowChosen, setChosen}
 use Rattle.change.proofs.Answers.{first-fails, first-passes, first-none, listed-seen}
 use Rattle.change.proofs.Known.{own-over}
-use Rattle.marks.proofs.Carrying.{left-planned, own-marked, marked-met, mark-met, count-met, any-counted, working}
+use Rattle.chosen.proofs.Carrying.{left-planned, own-chosen, sought-met, row-met, count-met, any-counted, working}
 use Rattle.update.proofs.Setting.{listed-there, listed-nowhere}
 
 -- ---- what is listed for a column
@@ -83,17 +83,17 @@ module _ (c : ℕ) (list : List ℕ) (P : Plan) (kinds : ByColumn (kindListed li
     B = S c .rows
 
     abbrev E : Effect
-    E = setMarked d c r list (P .marks) B
+    E = setChosen d c r list (P .chosen) B
 
     gone-is : (s v : ℕ) → aboveOf d c r P B .gone s v ≡ E .above .gone s v
-    unfolding aboveOf setMarked
+    unfolding aboveOf setChosen
     gone-is s v = rw nothing-gone (cases (eqb s r) (λ t. rw t) (λ t. rw t))
 
     changed-is : (s v k : ℕ) → aboveOf d c r P B .change s v k ≡ E .above .change s v k
-    unfolding aboveOf setMarked
+    unfolding aboveOf setChosen
     changed-is s v k = rw (change-is k)
 
-    module _ (m : ℕ) (L : Listing m list) (M : Chosen (rowCount d r) (S c .rows r) (P .marks)) where
+    module _ (m : ℕ) (L : Listing m list) (M : Chosen (rowCount d r) (S c .rows r) (P .chosen)) where
       -- what is no column is not listed
       past : (i k : ℕ) → between 1 m k ≡ false → setIn c list (S c .rows r i) k ≡ S c .rows r i k
       unfolding setIn
@@ -107,24 +107,24 @@ module _ (c : ℕ) (list : List ℕ) (P : Plan) (kinds : ByColumn (kindListed li
           go : listed list k ≡ none → setIn c list (S c .rows r i) k ≡ S c .rows r i k
           go n = rw (setIn, n)
 
-      pub update-left : {S′ S″ : State} → S′ ≡ carried d c r P S → S″ ≡ changeLevel c (withRows (rowCount d r) m r (λ i. rowMarked (P .marks) (setIn c list) i (S′ c .rows r i))) S′
-          → S″ ≡ left d c (some (setMarked d c r list (P .marks) (S c .rows))) S
-      unfolding setMarked
+      pub update-left : {S′ S″ : State} → S′ ≡ carried d c r P S → S″ ≡ changeLevel c (withRows (rowCount d r) m r (λ i. rowChosen (P .chosen) (setIn c list) i (S′ c .rows r i))) S′
+          → S″ ≡ left d c (some (setChosen d c r list (P .chosen) (S c .rows))) S
+      unfolding setChosen
       update-left p q =
           q
-          ∙ ap (λ (T : State). changeLevel c (withRows (rowCount d r) m r (λ i. rowMarked (P .marks) (setIn c list) i (T c .rows r i))) T) p
-          ∙ ap (λ (D : Level). changeLevel c (withRows (rowCount d r) m r (λ i. rowMarked (P .marks) (setIn c list) i (D .rows r i))) (carried d c r P S)) (carried-own d c r P S)
-          ∙ left-planned d c r P S E (withRows (rowCount d r) m r (λ i. rowMarked (P .marks) (setIn c list) i (S c .rows r i))) gone-is
+          ∙ ap (λ (T : State). changeLevel c (withRows (rowCount d r) m r (λ i. rowChosen (P .chosen) (setIn c list) i (T c .rows r i))) T) p
+          ∙ ap (λ (D : Level). changeLevel c (withRows (rowCount d r) m r (λ i. rowChosen (P .chosen) (setIn c list) i (D .rows r i))) (carried d c r P S)) (carried-own d c r P S)
+          ∙ left-planned d c r P S E (withRows (rowCount d r) m r (λ i. rowChosen (P .chosen) (setIn c list) i (S c .rows r i))) gone-is
           (λ s l i k h. changed-is s (S l .rows s i 1 .value) k)
-          (own-marked (rowCount d r) m r (P .marks) (setIn c list) (S c) M past)
+          (own-chosen (rowCount d r) m r (P .chosen) (setIn c list) (S c) M past)
 
 -- the plan is one
 pub update-planned : (d : Description) (r c : ℕ) (list : List ℕ) (P : Plan) (B : ℕ → Row) → ByColumn (kindListed list) (P .kinds)
-    → ByColumn (valueListed list) (P .values) → P .classes ≡ replicate 9 c → Chosen (rowCount d r) B (P .marks) → lists list 1 ≡ false → Planned d r c P B
+    → ByColumn (valueListed list) (P .values) → P .classes ≡ replicate 9 c → Chosen (rowCount d r) B (P .chosen) → lists list 1 ≡ false → Planned d r c P B
 unfolding kindListed
 update-planned d r c list P B kinds values e M n =
     record {
-      marks = M .long;
+      chosen = M .long;
       values = values .long;
       classes = ap length e;
       real = M .real;
@@ -141,17 +141,17 @@ update-planned d r c list P B kinds values e M n =
 
 -- ---- the effect, by what meets the conditions
 
-pub update-marked : (d : Description) (c r : ℕ) (list conditions : List ℕ) (marks : List Bool) (B : Rows) → Marked (rowCount d r) (metAt d conditions (B r)) marks
-    → ((i : ℕ) → rowCount d r ≤ i → B r i 1 .value ≡ 0) → setMarked d c r list marks B ≡ updated d c r list conditions B
-unfolding setMarked updated
-update-marked d c r list conditions marks B M out =
+pub update-chosen : (d : Description) (c r : ℕ) (list conditions : List ℕ) (chosen : List Bool) (B : Rows) → ChosenBy (rowCount d r) (metAt d conditions (B r)) chosen
+    → ((i : ℕ) → rowCount d r ≤ i → B r i 1 .value ≡ 0) → setChosen d c r list chosen B ≡ updated d c r list conditions B
+unfolding setChosen updated
+update-chosen d c r list conditions chosen B M out =
     ap₂ (λ (N : Rows) (A : Above). record { own = N; above = A })
     (fun-ext (λ s. fun-ext (λ i. cases (eqb s r)
-    (λ t. rw (eqb-true s r t, eq-eqb r r refl, mark-met d conditions (rowCount d r) (B r) marks M out i))
+    (λ t. rw (eqb-true s r t, eq-eqb r r refl, row-met d conditions (rowCount d r) (B r) chosen M out i))
     (λ t. rw t))))
     (ap (λ (f : ℕ → ℕ → ℕ → Change). record { gone = λ s v. false; change = f })
     (fun-ext (λ s. fun-ext (λ v. fun-ext (λ k. cases (eqb s r)
-    (λ t. rw (eqb-true s r t, eq-eqb r r refl, marked-met d conditions (rowCount d r) (B r) marks M v))
+    (λ t. rw (eqb-true s r t, eq-eqb r r refl, sought-met d conditions (rowCount d r) (B r) chosen M v))
     (λ t. rw t))))))
 
 -- ---- what is well formed
@@ -204,13 +204,13 @@ module _ {d : Description} {order : List (List Bool)} {r c : ℕ} {p : Part} {vs
     update-range t = refuses Faults.Range (first-fails _ _ (each-is ∙ t)) refl refl refl
 
     -- which rows are met, and whether the reference has its row
-    module _ (t : a ≡ true) {marks : List Bool} (M : Marked (rowCount d r) (metAt d conditions (T c .rows r)) marks) {count : ℕ} (C : Counted (p .rows) marks count)
+    module _ (t : a ≡ true) {chosen : List Bool} (M : ChosenBy (rowCount d r) (metAt d conditions (T c .rows r)) chosen) {count : ℕ} (C : Counted (p .rows) chosen count)
         {b : Bool} (z : (classes : List ℕ) → b ≡ (eqb count 0 || listedNames d c r list (rowsOf (stateOf d (holding vs classes))))) where
       own : sight d c vs cs c .rows ≡ T c .rows
       own = seen-own d T c (own-over K)
 
       count-is : count ≡ countBelow (rowCount d r) (λ i. met d conditions (T c .rows r i))
-      count-is = count-met d conditions (rowCount d r) (T c .rows r) marks M (rw (K .laid .rows) at C)
+      count-is = count-met d conditions (rowCount d r) (T c .rows r) chosen M (rw (K .laid .rows) at C)
 
       counted : count ≡ metRows d c r conditions (sight d c vs cs)
       unfolding metRows
@@ -230,12 +230,12 @@ module _ {d : Description} {order : List (List Bool)} {r c : ℕ} {p : Part} {vs
       unfolding updateTests
       update-reference w = refuses Faults.Reference (first-passes _ _ (each-is ∙ t) ∙ first-fails _ _ (named-is ∙ w)) refl refl refl
 
-      effect-is : setMarked d c r list marks (T c .rows) ≡ updated d c r list conditions (sight d c vs cs c .rows)
+      effect-is : setChosen d c r list chosen (T c .rows) ≡ updated d c r list conditions (sight d c vs cs c .rows)
       effect-is =
-          update-marked d c r list conditions marks (T c .rows) M (λ i h. ap (λ (x : Cell). x .value) (working K .outside r c i 1 h))
+          update-chosen d c r list conditions chosen (T c .rows) M (λ i h. ap (λ (x : Cell). x .value) (working K .outside r c i 1 h))
           ∙ ap (updated d c r list conditions) (sym own)
 
-      pub update-done : b ≡ true → {us ds : List ℕ} → stateOf d (holding us ds) ≡ left d c (some (setMarked d c r list marks (T c .rows))) T
+      pub update-done : b ≡ true → {us ds : List ℕ} → stateOf d (holding us ds) ≡ left d c (some (setChosen d c r list chosen (T c .rows))) T
           → Updates d c r list conditions vs cs us ds (Answers.Done count)
       unfolding updateTests
       update-done w m =

@@ -8,8 +8,8 @@ use asked::pairs::once;
 use cells::layout::Part;
 use cells::write::put;
 use change::named::listed;
+use conditions::chosen;
 use conditions::count;
-use conditions::marks;
 use model::Answer;
 use model::Description;
 use model::Fault;
@@ -33,7 +33,7 @@ ghost use Rattle.cells.specs.Changed.{changeLevel, withRow};
 ghost use Rattle.above.specs.Facts.{withRows};
 ghost use Rattle.asked.specs.Facts.{Ordered, Related};
 ghost use Rattle.change.specs.Facts.{Standing, Naming, valueListed, Updates};
-ghost use Rattle.marks.specs.Marking.{Listing, ByColumn, Chosen, kindListed, rowMarked, setMarked};
+ghost use Rattle.chosen.specs.Choosing.{Listing, ByColumn, Chosen, kindListed, rowChosen, setChosen};
 
 // Every column exists, none is listed twice, the key is not, and one is.
 pub fn formed(
@@ -130,7 +130,7 @@ fn set(
     }
 }
 
-// The row, where it is marked.
+// The row, where it is chosen.
 fn row(
     values: &mut [u32],
     classes: &mut [u8],
@@ -138,15 +138,15 @@ fn row(
     description: Description,
     relation: usize,
     part: Part,
-    marks: [bool; 64],
+    chosen: [bool; 64],
     level: usize,
     row: usize,
 )
     requires { ⌜ Lent description relation part (length (now values)) (length (now classes)) × InRow description relation level row ⌝ }
     requires { ⌜ Listing (columnCount description relation) (now list) × (level < 16) ⌝ }
-    ensures { λ _. ⌜ stateOf description (holding (now (values .exit)) (now (classes .exit))) ≡ changeLevel level (withRow (columnCount description relation) relation row (rowMarked marks (setIn level (now (list .entry))) row (stateOf description (holding (now (values .entry)) (now (classes .entry))) level .rows relation row))) (stateOf description (holding (now (values .entry)) (now (classes .entry)))) ⌝ }
+    ensures { λ _. ⌜ stateOf description (holding (now (values .exit)) (now (classes .exit))) ≡ changeLevel level (withRow (columnCount description relation) relation row (rowChosen chosen (setIn level (now (list .entry))) row (stateOf description (holding (now (values .entry)) (now (classes .entry))) level .rows relation row))) (stateOf description (holding (now (values .entry)) (now (classes .entry)))) ⌝ }
 {
-    if !marks[row] {
+    if !chosen[row] {
         return;
     }
     set(
@@ -169,12 +169,12 @@ fn rows(
     description: Description,
     relation: usize,
     part: Part,
-    marks: [bool; 64],
+    chosen: [bool; 64],
     level: usize,
 )
     requires { ⌜ Lent description relation part (length (now values)) (length (now classes)) × InLevel description relation level ⌝ }
     requires { ⌜ Listing (columnCount description relation) (now list) × (level < 16) ⌝ }
-    ensures { λ _. ⌜ stateOf description (holding (now (values .exit)) (now (classes .exit))) ≡ changeLevel level (withRows (rowCount description relation) (columnCount description relation) relation (λ i. rowMarked marks (setIn level (now (list .entry))) i (stateOf description (holding (now (values .entry)) (now (classes .entry))) level .rows relation i))) (stateOf description (holding (now (values .entry)) (now (classes .entry)))) ⌝ }
+    ensures { λ _. ⌜ stateOf description (holding (now (values .exit)) (now (classes .exit))) ≡ changeLevel level (withRows (rowCount description relation) (columnCount description relation) relation (λ i. rowChosen chosen (setIn level (now (list .entry))) i (stateOf description (holding (now (values .entry)) (now (classes .entry))) level .rows relation i))) (stateOf description (holding (now (values .entry)) (now (classes .entry)))) ⌝ }
 {
     let rows = part.rows;
     let mut i = 0;
@@ -186,7 +186,7 @@ fn rows(
             description,
             relation,
             part,
-            marks,
+            chosen,
             level,
             i,
         );
@@ -194,7 +194,7 @@ fn rows(
     }
 }
 
-// What is listed is done to the marked rows: first above, then at the subject's level.
+// What is listed is done to the chosen rows: first above, then at the subject's level.
 fn write(
     values: &mut [u32],
     classes: &mut [u8],
@@ -203,18 +203,18 @@ fn write(
     order: [[bool; 16]; 16],
     relation: usize,
     part: Part,
-    marks: [bool; 64],
+    chosen: [bool; 64],
     level: usize,
 )
-    requires { ⌜ Standing description order relation level part (now values) (now classes) × Chosen (rowCount description relation) (stateOf description (holding (now values) (now classes)) level .rows relation) marks ⌝ }
+    requires { ⌜ Standing description order relation level part (now values) (now classes) × Chosen (rowCount description relation) (stateOf description (holding (now values) (now classes)) level .rows relation) chosen ⌝ }
     requires { ⌜ Listing (columnCount description relation) (now list) × (lists (now list) 1 ≡ false) ⌝ }
-    ensures { λ _. ⌜ stateOf description (holding (now (values .exit)) (now (classes .exit))) ≡ left description level (some (setMarked description level relation (now (list .entry)) marks (stateOf description (holding (now (values .entry)) (now (classes .entry))) level .rows))) (stateOf description (holding (now (values .entry)) (now (classes .entry)))) ⌝ }
+    ensures { λ _. ⌜ stateOf description (holding (now (values .exit)) (now (classes .exit))) ≡ left description level (some (setChosen description level relation (now (list .entry)) chosen (stateOf description (holding (now (values .entry)) (now (classes .entry))) level .rows))) (stateOf description (holding (now (values .entry)) (now (classes .entry)))) ⌝ }
 {
     let kinds = kinds(list);
     let news = news(list);
     let owners = [level as u8; 9];
     let plan = Plan {
-        marks: marks,
+        chosen: chosen,
         gone: false,
         kinds: kinds,
         values: news,
@@ -237,7 +237,7 @@ fn write(
         description,
         relation,
         part,
-        marks,
+        chosen,
         level,
     );
 }
@@ -288,7 +288,7 @@ pub fn update(
     ) {
         return Answer::Refused(Fault::Range);
     }
-    let marks = marks(
+    let chosen = chosen(
         values,
         classes,
         conditions,
@@ -298,7 +298,7 @@ pub fn update(
         part,
         level,
     );
-    let count = count(marks, part.rows);
+    let count = count(chosen, part.rows);
     if !reference(values, list, description, relation, level, count) {
         return Answer::Refused(Fault::Reference);
     }
@@ -310,7 +310,7 @@ pub fn update(
         order,
         relation,
         part,
-        marks,
+        chosen,
         level,
     );
     Answer::Done { count: count }

@@ -1,4 +1,4 @@
--- What an UPLEVEL leaves: the new row at its place, and a plan that marks the entity's row does above what the model says.
+-- What an UPLEVEL leaves: the new row at its place; and a plan in which the entity's row is chosen does above what the model says.
 -- Assumes nothing.
 use Prim.Native.Nat.{ℕ, _≤_, _<_}
 use mathlib.Core.Path.{_≡_, refl, sym, ap, _∙_}
@@ -35,7 +35,7 @@ use Rattle.cells.specs.declared.layout.Part.{Part}
 use Rattle.cells.specs.Changed.{entityPlace, listedRow, withRow, changeLevel}
 use Rattle.cells.proofs.Cells.{state-path}
 use Rattle.cells.proofs.Changes.{change-here, change-other}
-use Rattle.above.specs.Facts.{Working, Planned, markedAt, changeOf, aboveOf, carried}
+use Rattle.above.specs.Facts.{Working, Planned, chosenAt, changeOf, aboveOf, carried}
 use Rattle.above.proofs.Carried.{carried-own, carried-aside, carried-cell}
 use Rattle.uplevel.specs.declared.made.News.{News}
 use Rattle.change.specs.Facts.{Standing}
@@ -46,7 +46,7 @@ use Rattle.change.proofs.Known.{own-over}
 use Rattle.uplevel.proofs.Entities.{entity-is, entity-place}
 use Rattle.uplevel.proofs.Borrowing.{listed-column}
 
--- ---- one mark
+-- ---- one row chosen
 
 none-set : (i : ℕ) → getD (replicate 64 false) i false ≡ false
 none-set i =
@@ -54,8 +54,8 @@ none-set i =
     (λ t. getD-replicate 64 i false false (ltb-true i 64 t))
     (λ t. List·getD-eq-default (replicate 64 false) false {n = i} (ltb-false i 64 t))
 
-one-marked : (row : ℕ) (on : Bool) → row < 64 → (i : ℕ) → getD (set (replicate 64 false) row on) i false ≡ (eqb i row && on)
-one-marked row on h i =
+one-chosen : (row : ℕ) (on : Bool) → row < 64 → (i : ℕ) → getD (set (replicate 64 false) row on) i false ≡ (eqb i row && on)
+one-chosen row on h i =
     cases (eqb i row)
     (λ t. rw (eqb-true i row t, eq-eqb row row refl) (getD-set-same (replicate 64 false) row on false h))
     (λ t. rw t (getD-set-other (replicate 64 false) row i on false (eqb-false i row t) ∙ none-set i))
@@ -101,10 +101,10 @@ pub planned : (d : Description) (r c row : ℕ) (there : Bool) (news : News) (B 
 unfolding planOf twos
 planned d r c row there news B h v w n =
     record {
-      marks = length-set (replicate 64 false) row there;
+      chosen = length-set (replicate 64 false) row there;
       values = v;
       classes = w;
-      real = λ i _ t. real i (of-true (and-r (eqb-r i row) (bool-r there)) (sym (one-marked row there h i) ∙ t));
+      real = λ i _ t. real i (of-true (and-r (eqb-r i row) (bool-r there)) (sym (one-chosen row there h i) ∙ t));
       own = λ k e. absurd (two k e);
       key = two 1;
     }
@@ -113,12 +113,12 @@ planned d r c row there news B h v w n =
     real i q = rw (q .0) (n (q .1))
 
 -- what is done above by such a plan, and then at c
-pub written : (d : Description) (r c row : ℕ) (there : Bool) (news : News) (f : Level → Level) (S : State) {T U : State} {marks : List Bool} → marks ≡ set (replicate 64 false) row there
-    → T ≡ carried d c r (record { marks = marks; gone = false; kinds = replicate 9 2; values = news .values; classes = news .classes }) S
+pub written : (d : Description) (r c row : ℕ) (there : Bool) (news : News) (f : Level → Level) (S : State) {T U : State} {chosen : List Bool} → chosen ≡ set (replicate 64 false) row there
+    → T ≡ carried d c r (record { chosen = chosen; gone = false; kinds = replicate 9 2; values = news .values; classes = news .classes }) S
     → U ≡ changeLevel c f T → U ≡ changeLevel c f (carried d c r (planOf row there news) S)
 unfolding planOf
 written d r c row there news f S {T} {U} m p q =
-    q ∙ ap (changeLevel c f) (p ∙ ap (λ (x : List Bool). carried d c r (record { marks = x; gone = false; kinds = replicate 9 2; values = news .values; classes = news .classes }) S) m)
+    q ∙ ap (changeLevel c f) (p ∙ ap (λ (x : List Bool). carried d c r (record { chosen = x; gone = false; kinds = replicate 9 2; values = news .values; classes = news .classes }) S) m)
 
 -- ---- the rows above
 
@@ -156,11 +156,11 @@ module _ (d : Description) (order : List (List Bool)) (r c : ℕ) (S : State) (W
   row-place : there ≡ true → row ≡ place (rowCount d r) (B r) (e .value)
   row-place t = spot ∙ rw t
 
-  -- the entity's row is marked where it is there, and no other
-  marks-as : (v : ℕ) → markedAt (rowCount d r) (set (replicate 64 false) row there) (B r) v ≡ (eqb v (e .value) && there)
-  unfolding markedAt
-  marks-as v =
-      rw (one-marked row there few (place (rowCount d r) (B r) v))
+  -- the entity's row is chosen where it is there, and no other
+  chosen-as : (v : ℕ) → chosenAt (rowCount d r) (set (replicate 64 false) row there) (B r) v ≡ (eqb v (e .value) && there)
+  unfolding chosenAt
+  chosen-as v =
+      rw (one-chosen row there few (place (rowCount d r) (B r) v))
       (alike
       (and-r (ltb-r (place (rowCount d r) (B r) v) (rowCount d r)) (and-r (eqb-r (place (rowCount d r) (B r) v) row) (bool-r there)))
       (and-r (eqb-r v (e .value)) (bool-r there))
@@ -176,7 +176,7 @@ module _ (d : Description) (order : List (List Bool)) (r c : ℕ) (S : State) (W
   -- what the plan does to a cell above is what the effect does
   own-change : (v k : ℕ) → between 1 (columnCount d r) k ≡ true → aboveOf d c r (planOf row there news) B .change r v k ≡ E .above .change r v k
   unfolding aboveOf placed planOf
-  own-change v k b = rw (marks-as v, ← is, change-is k b)
+  own-change v k b = rw (chosen-as v, ← is, change-is k b)
 
   same-change : (s v k : ℕ) → between 1 (columnCount d s) k ≡ true → aboveOf d c r (planOf row there news) B .change s v k ≡ E .above .change s v k
   unfolding aboveOf placed

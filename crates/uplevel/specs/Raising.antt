@@ -98,4 +98,4 @@ spotOf d r i B = if ltb i (rowCount d r) then i else lowestEmpty d B r
 -- what is done to the rows above: where a row was replaced, what differs from the new row becomes null
 unfoldable pub planOf : ℕ → Bool → News → Plan
 planOf row there news =
-    record { marks = set (replicate 64 false) row there; gone = false; kinds = replicate 9 2; values = news .values; classes = news .classes }
+    record { chosen = set (replicate 64 false) row there; gone = false; kinds = replicate 9 2; values = news .values; classes = news .classes }

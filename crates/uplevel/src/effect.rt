@@ -46,14 +46,14 @@ pub(crate) fn spot(
     lowest(values, classes, description, relation, part, subject)
 }
 
-// Only one row is marked, or none.
-fn mark(row: usize, on: bool) -> [bool; 64]
+// Only one row is chosen, or none.
+fn choose(row: usize, on: bool) -> [bool; 64]
     requires { ⌜ row < 64 ⌝ }
     ensures { λ r. ⌜ r ≡ set (replicate 64 false) row on ⌝ }
 {
-    let mut marks = [false; 64];
-    marks[row] = on;
-    marks
+    let mut chosen = [false; 64];
+    chosen[row] = on;
+    chosen
 }
 
 // A row becomes the new row; above, where the entity was there, what differs from it becomes null.
@@ -73,11 +73,11 @@ fn write(
     requires { ⌜ (length (news .values) ≡ 9) × (length (news .classes) ≡ 9) × (there ≡ true → stateOf description (holding (now values) (now classes)) subject .rows relation row 1 .value ≢ 0) ⌝ }
     ensures { λ _. ⌜ stateOf description (holding (now (values .exit)) (now (classes .exit))) ≡ changeLevel subject (withRow (columnCount description relation) relation row (listedRow (news .values) (news .classes))) (carried description subject relation (planOf row there news) (stateOf description (holding (now (values .entry)) (now (classes .entry))))) ⌝ }
 {
-    let marks = mark(row, there);
+    let chosen = choose(row, there);
     let new = news.values;
     let owners = news.classes;
     let plan = Plan {
-        marks: marks,
+        chosen: chosen,
         gone: false,
         kinds: [2; 9],
         values: new,

@@ -1,4 +1,4 @@
--- The invariant: what is counted is how many marks were passed that are set.
+-- The invariant: what is counted is how many of the rows that were passed are chosen.
 use Prim.Native.Nat.{_≤_, _-_}
 use mathlib.Core.Bool.{false}
 use mathlib.Core.Path.{_≡_, refl, _∙_}
@@ -11,11 +11,11 @@ use Rattle.conditions.proofs.count.Statement.{statement}
 use Rattle.conditions.proofs.count.Tie as tie
 
 abbrev Inv-loop : tie.InvT-loop
-Inv-loop rows marks count₀ row₀ count row =
-    (row ≤ rows) × (count ≤ row) × (count ≡ countBelow row (λ i. getD marks i false))
+Inv-loop rows chosen count₀ row₀ count row =
+    (row ≤ rows) × (count ≤ row) × (count ≡ countBelow row (λ i. getD chosen i false))
 
 abbrev μ-loop : tie.MeasureT-loop
-μ-loop rows marks count₀ row₀ count row = rows - row
+μ-loop rows chosen count₀ row₀ count row = rows - row
 
 loop-holds : tie.Need-loop-holds Inv-loop μ-loop
 loop-holds c = (omega arith, omega arith, count-start _)

@@ -1,10 +1,10 @@
--- The invariant: of the rows that were passed, those stay marked that meet the condition.
+-- The invariant: of the rows that were passed, those stay chosen that meet the condition.
 use Prim.Native.Nat.{_≤_, _-_}
 use mathlib.Core.Logic.{inl, inr}
 use native.Mathlib.Omega.{arith}
 use Rattle.model.specs.Buffers.{holding, stateOf}
 use Rattle.conditions.specs.Facts.{asks, Narrowed}
-use Rattle.conditions.proofs.Marking.{narrowed-none, narrowed-more, narrowed-same, narrowed-end}
+use Rattle.conditions.proofs.Choosing.{narrowed-none, narrowed-more, narrowed-same, narrowed-end}
 use Rattle.conditions.proofs.narrow.Statement.{statement}
 use Rattle.conditions.proofs.narrow.Tie as tie
 

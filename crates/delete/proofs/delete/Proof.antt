@@ -1,12 +1,12 @@
 use Rattle.change.proofs.Known.{ordered, own-level, naming, sized, lent}
-use Rattle.marks.proofs.Carrying.{chosen}
+use Rattle.chosen.proofs.Carrying.{met-chosen}
 use Rattle.delete.proofs.Deleted.{delete-referred, delete-done}
 use borrow.Author.Needs.{needs}
 use Rattle.delete.proofs.delete.Statement.{statement}
 use Rattle.delete.proofs.delete.Tie as tie
 
-marks-requires : tie.Need-marks-requires
-marks-requires c κs =
+chosen-requires : tie.Need-chosen-requires
+chosen-requires c κs =
     let s = c .before .before .before .before .before in
     let k = s .pre .0 in
     ((lent k, own-level k), record { ordered = ordered k; formed = s .pre .1 })
@@ -26,7 +26,7 @@ returns : tie.Need-returns
 returns c =
     let m = c .before .before .before in
     let s = m .before .before .before .before .before .before in
-    delete-referred (s .pre .0) _ (m .marks .ensures) (c .before .referred .ensures) (c .if1 .taken)
+    delete-referred (s .pre .0) _ (m .chosen .ensures) (c .before .referred .ensures) (c .if1 .taken)
 
 count-requires : tie.Need-count-requires
 count-requires c κs = search needs
@@ -35,7 +35,7 @@ write-requires : tie.Need-write-requires
 write-requires c κs =
     let m = c .before .before .before .before .before .before in
     let s = m .before .before .before .before .before .before in
-    (s .pre .0, chosen _ _ _ _ _ (m .marks .ensures))
+    (s .pre .0, met-chosen _ _ _ _ _ (m .chosen .ensures))
 
 same-length-3 : tie.Need-same-length-3
 same-length-3 c = search needs
@@ -50,13 +50,13 @@ returns-2 c =
     let r = n .before .before in
     let m = r .before .before in
     let s = m .before .before .before .before .before .before in
-    delete-done (s .pre .0) _ (m .marks .ensures) (r .referred .ensures) (n .before .if1 .left) (n .count .ensures) (w .write .ensures)
+    delete-done (s .pre .0) _ (m .chosen .ensures) (r .referred .ensures) (n .before .if1 .left) (n .count .ensures) (w .write .ensures)
 
 pub delete-spec : {M : Type 1} → statement M
 delete-spec =
     tie.close
     (tie.spec
-    marks-requires
+    chosen-requires
     referred-requires
     same-length
     same-length-2

@@ -1,4 +1,4 @@
--- The invariant: no row of a relation that was passed refers to a marked one.
+-- The invariant: no row of a relation that was passed refers to a chosen one.
 use Prim.Native.Nat.{_+_, _-_, _≤_, _<_}
 use mathlib.Core.Path.{_≡_}
 use mathlib.Core.Bool.{false}
@@ -8,17 +8,17 @@ use Rattle.bounded.specs.Bounded.{anyBelow}
 use Rattle.bounded.proofs.Any.{any-more}
 use Rattle.bounded.proofs.Reflection.{is-true, of-true}
 use Rattle.model.proofs.Sound.{relation-r}
-use Rattle.marks.specs.Marking.{refersMarked}
+use Rattle.chosen.specs.Choosing.{refersChosen}
 use Rattle.cells.proofs.Counts.{sound-says}
 use Rattle.delete.proofs.Emptying.{referred-start, referred-here, referred-none}
 use Rattle.delete.proofs.referred.Statement.{statement}
 use Rattle.delete.proofs.referred.Tie as tie
 
 abbrev Inv-loop : tie.InvT-loop
-Inv-loop values description relation part marks level relations at₀ at = (0 < at) × (at ≤ relations + 1) × (anyBelow at (refersMarked description values marks relation level) ≡ false)
+Inv-loop values description relation part chosen level relations at₀ at = (0 < at) × (at ≤ relations + 1) × (anyBelow at (refersChosen description values chosen relation level) ≡ false)
 
 abbrev μ-loop : tie.MeasureT-loop
-μ-loop values description relation part marks level relations at₀ at = relations + 1 - at
+μ-loop values description relation part chosen level relations at₀ at = relations + 1 - at
 
 cast-relations : tie.Need-cast-relations Inv-loop μ-loop
 cast-relations c = search needs

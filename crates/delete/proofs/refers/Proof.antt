@@ -1,4 +1,4 @@
--- The invariant: no row that was passed refers to a marked one.
+-- The invariant: no row that was passed refers to a chosen one.
 use Prim.Native.Nat.{_-_, _≤_}
 use mathlib.Core.Path.{_≡_, sym, _∙_}
 use mathlib.Core.Bool.{false}
@@ -6,17 +6,17 @@ use native.Mathlib.Omega.{arith}
 use borrow.Author.Needs.{needs}
 use Rattle.bounded.specs.Bounded.{anyBelow}
 use Rattle.bounded.proofs.Any.{any-start, any-more}
-use Rattle.marks.specs.Marking.{rowRefers}
+use Rattle.chosen.specs.Choosing.{rowRefers}
 use Rattle.cells.proofs.Counts.{relation-few, foreign-is, refers-is}
 use Rattle.delete.proofs.Emptying.{refers-other, row-refers, refers-here, refers-none, reference-inside}
 use Rattle.delete.proofs.refers.Statement.{statement}
 use Rattle.delete.proofs.refers.Tie as tie
 
 abbrev Inv-loop : tie.InvT-loop
-Inv-loop values referrer relation part marks level description place column rows row₀ row = (row ≤ rows) × (anyBelow row (rowRefers description values marks relation level referrer) ≡ false)
+Inv-loop values referrer relation part chosen level description place column rows row₀ row = (row ≤ rows) × (anyBelow row (rowRefers description values chosen relation level referrer) ≡ false)
 
 abbrev μ-loop : tie.MeasureT-loop
-μ-loop values referrer relation part marks level description place column rows row₀ row = rows - row
+μ-loop values referrer relation part chosen level description place column rows row₀ row = rows - row
 
 mul-if1 : tie.Need-mul-if1 Inv-loop μ-loop
 mul-if1 c = let s = c .before in omega (arith, relation-few _ (s .pre .1 .0 .sound-is) _ (s .pre .1 .0 .relation))

@@ -1,6 +1,6 @@
 use mathlib.Core.Path.{refl, _∙_}
 use Rattle.change.proofs.Known.{own-level, lent}
-use Rattle.marks.proofs.Carrying.{working}
+use Rattle.chosen.proofs.Carrying.{working}
 use Rattle.delete.proofs.Deleted.{delete-left, delete-planned}
 use borrow.Author.Needs.{needs}
 use Rattle.delete.proofs.write.Statement.{statement}

@@ -1,11 +1,11 @@
-use Rattle.select.proofs.Shown.{room-values, room-owners, wrote-unmarked, wrote-marked}
+use Rattle.select.proofs.Shown.{room-values, room-owners, wrote-unchosen, wrote-chosen}
 use borrow.Author.Tests.{not-true, not-false}
 use borrow.Author.Needs.{needs}
 use Rattle.select.proofs.put.Statement.{statement}
 use Rattle.select.proofs.put.Tie as tie
 
 returns : tie.Need-returns
-returns c = wrote-unmarked _ _ _ _ _ _ _ _ (not-true _ (c .if1 .taken))
+returns c = wrote-unchosen _ _ _ _ _ _ _ _ (not-true _ (c .if1 .taken))
 
 copy-requires : tie.Need-copy-requires
 copy-requires c κs =
@@ -37,7 +37,7 @@ returns-2 : tie.Need-returns-2
 returns-2 c =
     let s = c .before .before .before .before .before .before .before .before .before .before .before .before .before .before .before .before .before in
     let t = not-false _ (c .before .before .before .before .before .before .before .before .before .before .before .before .if1 .left) in
-    wrote-marked _ _ _ _ _ _ _ _ t (s .pre .0 .0 .laid .columns)
+    wrote-chosen _ _ _ _ _ _ _ _ t (s .pre .0 .0 .laid .columns)
     (c .before .before .before .before .before .before .before .before .before .before .copy .ensures)
     (c .before .before .before .before .before .before .own .ensures)
 

@@ -24,14 +24,14 @@ abbrev μ-loop : tie.MeasureT-loop
 loop-holds : tie.Need-loop-holds Inv-loop μ-loop
 loop-holds c = (omega arith, omega arith, concat-start _)
 
-element-copy-out-marks : tie.Need-element-copy-out-marks Inv-loop μ-loop
-element-copy-out-marks c = search needs
+element-copy-out-chosen : tie.Need-element-copy-out-chosen Inv-loop μ-loop
+element-copy-out-chosen c = search needs
 
-cast-marks : tie.Need-cast-marks Inv-loop μ-loop
-cast-marks c = search needs
+cast-chosen : tie.Need-cast-chosen Inv-loop μ-loop
+cast-chosen c = search needs
 
-marks-requires : tie.Need-marks-requires Inv-loop μ-loop
-marks-requires c κs =
+chosen-requires : tie.Need-chosen-requires Inv-loop μ-loop
+chosen-requires c κs =
     let s = c .before .before .before .before .before .before in (
       (s .pre .0 .0, record { relation = s .pre .0 .1 .relation; level = s .pre .0 .1 .level _ (c .before .loop-test .taken); keyed = s .pre .0 .1 .keyed }),
       s .pre .1,
@@ -55,7 +55,7 @@ loop-again c =
     let l = c .before .before .before .before .loop in (
       omega arith,
       omega (arith, c .count .ensures .few, s .pre .0 .0 .laid .few),
-      concat-length _ _ _ (l .inv .2) (ap (λ n. l .rows + n) (level-count _ _ _ _ _ _ (c .before .marks .ensures) (s .pre .0 .0 .laid .rows) (c .count .ensures))),
+      concat-length _ _ _ (l .inv .2) (ap (λ n. l .rows + n) (level-count _ _ _ _ _ _ (c .before .chosen .ensures) (s .pre .0 .0 .laid .rows) (c .count .ensures))),
     )
 
 returns : tie.Need-returns Inv-loop μ-loop
@@ -71,9 +71,9 @@ rows-spec =
     Inv-loop
     μ-loop
     loop-holds
-    element-copy-out-marks
-    cast-marks
-    marks-requires
+    element-copy-out-chosen
+    cast-chosen
+    chosen-requires
     count-requires
     add-rows
     add-i

@@ -13,17 +13,17 @@ use Rattle.select.proofs.show.Statement.{statement}
 use Rattle.select.proofs.show.Tie as tie
 
 abbrev Inv-loop : tie.InvT-loop
-Inv-loop values classes conditions shown₀ owners₀ d relation part level marks rows at₀ row₀ shown owners at row =
+Inv-loop values classes conditions shown₀ owners₀ d relation part level chosen rows at₀ row₀ shown owners at row =
     (row ≤ rows)
     × (length shown ≡ length shown₀)
     × (length owners ≡ length owners₀)
     × Wrote (concatBelow row (rowFound d relation conditions (stateOf d (holding values classes)) level)) at₀ at shown₀ owners₀ shown owners
 
 abbrev μ-loop : tie.MeasureT-loop
-μ-loop values classes conditions shown₀ owners₀ d relation part level marks rows at₀ row₀ shown owners at row = rows - row
+μ-loop values classes conditions shown₀ owners₀ d relation part level chosen rows at₀ row₀ shown owners at row = rows - row
 
-marks-requires : tie.Need-marks-requires Inv-loop μ-loop
-marks-requires c κs = search needs
+chosen-requires : tie.Need-chosen-requires Inv-loop μ-loop
+chosen-requires c κs = search needs
 
 loop-holds : tie.Need-loop-holds Inv-loop μ-loop
 loop-holds c = (omega arith, refl, refl, wrote-start _ _ _ _)
@@ -37,7 +37,7 @@ put-requires c κs =
     let l = c .before .before .before .loop in
     let small = c .before .before .loop-test .taken in (
       (s .pre .0 .0, (record { level = s .pre .0 .1 .0; row = omega (arith, small, s .pre .0 .0 .laid .rows) }, omega (arith, s .pre .0 .1 .0 .level, s .pre .0 .1 .1 .ordered .few))),
-      show-room _ _ _ _ _ (s .pre .0 .0 .laid .rows) _ (c .before .before .before .before .marks .ensures) small (s .pre .1) (l .inv .3) (l .inv .1) (l .inv .2),
+      show-room _ _ _ _ _ (s .pre .0 .0 .laid .rows) _ (c .before .before .before .before .chosen .ensures) small (s .pre .1) (l .inv .3) (l .inv .1) (l .inv .2),
     )
 
 add-row : tie.Need-add-row Inv-loop μ-loop
@@ -55,7 +55,7 @@ loop-again c =
       omega arith,
       k .kept .1 .1 .0 ∙ l .inv .1,
       k .kept .1 .1 .1 .0 ∙ l .inv .2,
-      show-next _ _ _ _ _ (s .pre .0 .0 .laid .rows) _ (c .before .before .before .before .before .before .before .before .before .marks .ensures) small (s .pre .1) (l .inv .3) (k .ensures),
+      show-next _ _ _ _ _ (s .pre .0 .0 .laid .rows) _ (c .before .before .before .before .before .before .before .before .before .chosen .ensures) small (s .pre .1) (l .inv .3) (k .ensures),
     )
 
 same-length : tie.Need-same-length Inv-loop μ-loop
@@ -76,7 +76,7 @@ show-spec =
     (tie.spec
     Inv-loop
     μ-loop
-    marks-requires
+    chosen-requires
     loop-holds
     array-read-put
     put-requires

@@ -3,7 +3,7 @@ use borrow.Author.Needs.{needs}
 use Prim.Native.Nat.{_*_, _-_, _≤_}
 use native.Mathlib.Omega.{arith}
 use Rattle.model.specs.Listed.{pairs as pairsOf, columnAt, secondAt}
-use Rattle.marks.specs.Marking.{ByColumn}
+use Rattle.chosen.specs.Choosing.{ByColumn}
 use Rattle.update.proofs.Setting.{among, columns-none, columns-more, news-end}
 use Rattle.update.proofs.news.Statement.{statement}
 use Rattle.update.proofs.news.Tie as tie

@@ -1,4 +1,4 @@
--- The invariant: the rows that were passed are set where they are marked, and nothing else has changed.
+-- The invariant: the rows that were passed are set where they are chosen, and nothing else has changed.
 use Prim.Native.Nat.{_-_, _≤_}
 use mathlib.Core.Path.{_≡_, refl, _∙_}
 use native.Mathlib.Omega.{arith}
@@ -9,24 +9,24 @@ use Rattle.model.specs.Buffers.{holding, stateOf}
 use Rattle.cells.specs.Changed.{changeLevel}
 use Rattle.above.specs.Facts.{withRows}
 use Rattle.above.proofs.Turns.{rows-start, rows-end}
-use Rattle.marks.specs.Marking.{rowMarked}
-use Rattle.marks.proofs.Marking.{marked-more}
+use Rattle.chosen.specs.Choosing.{rowChosen}
+use Rattle.chosen.proofs.Choosing.{chosen-more}
 use Rattle.update.proofs.rows.Statement.{statement}
 use Rattle.update.proofs.rows.Tie as tie
 
 abbrev Inv-loop : tie.InvT-loop
-Inv-loop values₀ classes₀ list description relation part marks level rows i₀ values classes i =
+Inv-loop values₀ classes₀ list description relation part chosen level rows i₀ values classes i =
     (i ≤ rows)
     × (length values ≡ length values₀)
     × (length classes ≡ length classes₀)
     × (stateOf description (holding values classes)
     ≡ changeLevel
     level
-    (withRows i (columnCount description relation) relation (λ j. rowMarked marks (setIn level list) j (stateOf description (holding values₀ classes₀) level .rows relation j)))
+    (withRows i (columnCount description relation) relation (λ j. rowChosen chosen (setIn level list) j (stateOf description (holding values₀ classes₀) level .rows relation j)))
     (stateOf description (holding values₀ classes₀)))
 
 abbrev μ-loop : tie.MeasureT-loop
-μ-loop values₀ classes₀ list description relation part marks level rows i₀ values classes i = rows - i
+μ-loop values₀ classes₀ list description relation part chosen level rows i₀ values classes i = rows - i
 
 loop-holds : tie.Need-loop-holds Inv-loop μ-loop
 loop-holds c = (omega arith, refl, refl, rows-start _ _ _ _ _)
@@ -56,7 +56,7 @@ loop-again c =
     let k = c .before .before .before .before .row in
     let t = c .before .before .before .before .before .before .before in
     let l = t .before .loop in
-    (omega (arith, t .loop-test .taken), k .kept .0 ∙ l .inv .1, k .kept .1 .0 ∙ l .inv .2, marked-more _ _ _ _ _ _ _ _ (l .i) (l .inv .3) (k .ensures))
+    (omega (arith, t .loop-test .taken), k .kept .0 ∙ l .inv .1, k .kept .1 .0 ∙ l .inv .2, chosen-more _ _ _ _ _ _ _ _ (l .i) (l .inv .3) (k .ensures))
 
 same-length : tie.Need-same-length Inv-loop μ-loop
 same-length c = c .before .loop .inv .1

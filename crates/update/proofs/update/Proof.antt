@@ -1,6 +1,6 @@
 use borrow.Author.Tests.{not-true, not-false}
 use Rattle.change.proofs.Known.{ordered, related, own-level, naming, lent}
-use Rattle.marks.proofs.Carrying.{chosen}
+use Rattle.chosen.proofs.Carrying.{met-chosen}
 use Rattle.update.proofs.Updated.{update-columns, update-keyless, update-listing, update-range, update-reference, update-done}
 use borrow.Author.Needs.{needs}
 use Rattle.update.proofs.update.Statement.{statement}
@@ -14,8 +14,8 @@ returns c =
     let s = c .before .before .before .before .before .before in
     update-range (s .pre .0) _ _ (c .before .each .ensures) (not-true _ (c .if1 .taken))
 
-marks-requires : tie.Need-marks-requires
-marks-requires c κs =
+chosen-requires : tie.Need-chosen-requires
+chosen-requires c κs =
     let s = c .before .before .before .before .before .before .before .before in
     let k = s .pre .0 in
     ((lent k, own-level k), record { ordered = ordered k; formed = s .pre .1 .1 })
@@ -39,13 +39,13 @@ returns-2 c =
     let m = c .before .before .before .before in
     let e = m .before .before .before in
     let s = e .before .before .before .before .before .before in
-    update-reference (s .pre .0) _ _ (e .before .each .ensures) (not-false _ (e .if1 .left)) (m .marks .ensures) (c .before .before .before .count .ensures) (c .before .reference .ensures) (not-true _ (c .if2 .taken))
+    update-reference (s .pre .0) _ _ (e .before .each .ensures) (not-false _ (e .if1 .left)) (m .chosen .ensures) (c .before .before .before .count .ensures) (c .before .reference .ensures) (not-true _ (c .if2 .taken))
 
 write-requires : tie.Need-write-requires
 write-requires c κs =
     let m = c .before .before .before .before .before .before in
     let s = m .before .before .before .before .before .before .before .before .before in
-    ((s .pre .0, chosen _ _ _ _ _ (m .marks .ensures)), (update-listing _ _ _ (s .pre .1 .0), update-keyless _ _ _ (s .pre .1 .0)))
+    ((s .pre .0, met-chosen _ _ _ _ _ (m .chosen .ensures)), (update-listing _ _ _ (s .pre .1 .0), update-keyless _ _ _ (s .pre .1 .0)))
 
 same-length-3 : tie.Need-same-length-3
 same-length-3 c = search needs
@@ -60,7 +60,7 @@ returns-3 c =
     let m = b .before .before .before .before in
     let e = m .before .before .before in
     let s = e .before .before .before .before .before .before in
-    update-done (s .pre .0) _ _ (e .before .each .ensures) (not-false _ (e .if1 .left)) (m .marks .ensures) (b .before .before .before .count .ensures) (b .before .reference .ensures) (not-false _ (b .if2 .left)) (w .write .ensures)
+    update-done (s .pre .0) _ _ (e .before .each .ensures) (not-false _ (e .if1 .left)) (m .chosen .ensures) (b .before .before .before .count .ensures) (b .before .reference .ensures) (not-false _ (b .if2 .left)) (w .write .ensures)
 
 pub update-spec : {M : Type 1} → statement M
 update-spec =
@@ -68,7 +68,7 @@ update-spec =
     (tie.spec
     each-requires
     returns
-    marks-requires
+    chosen-requires
     count-requires
     reference-requires
     same-length

@@ -1,7 +1,7 @@
 use mathlib.Core.Path.{refl, _∙_}
 use native.Mathlib.Omega.{arith}
 use Rattle.change.proofs.Known.{ordered, own-level, lent}
-use Rattle.marks.proofs.Carrying.{working}
+use Rattle.chosen.proofs.Carrying.{working}
 use Rattle.update.proofs.Updated.{listing-few, update-left, update-planned}
 use borrow.Author.Needs.{needs}
 use Rattle.update.proofs.write.Statement.{statement}

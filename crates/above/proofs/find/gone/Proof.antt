@@ -5,7 +5,7 @@ use lib.Dec.{eqb}
 use borrow.Author.Needs.{needs}
 use borrow.Author.Tests.{not-true, not-false}
 use Rattle.cells.proofs.Sought.{key-inside}
-use Rattle.above.proofs.Sought.{gone-off, gone-none, gone-unmarked, gone-other, gone-missing, gone-there}
+use Rattle.above.proofs.Sought.{gone-off, gone-none, gone-unchosen, gone-other, gone-missing, gone-there}
 use Rattle.above.proofs.find.gone.Statement.{statement}
 use Rattle.above.proofs.find.gone.Tie as tie
 
@@ -27,7 +27,7 @@ returns-3 : tie.Need-returns-3
 returns-3 c =
     let e = c .before .before .before in
     let s = e .before .before .before .before in
-    gone-unmarked _ _ _ _ _ _ _ _ (not-false _ (e .before .if1 .left)) (e .find .ensures .is) (omega (arith, s .pre .0 .0 .laid .rows, c .before .before .if2 .left)) (not-true _ (c .if3 .taken))
+    gone-unchosen _ _ _ _ _ _ _ _ (not-false _ (e .before .if1 .left)) (e .find .ensures .is) (omega (arith, s .pre .0 .0 .laid .rows, c .before .before .if2 .left)) (not-true _ (c .if3 .taken))
 
 class-at-requires : tie.Need-class-at-requires
 class-at-requires c κs =

@@ -4,7 +4,7 @@ use lib.Dec.{eqb}
 use borrow.Author.Needs.{needs}
 use borrow.Author.Tests.{not-true, not-false}
 use Rattle.cells.proofs.Sought.{key-inside}
-use Rattle.above.proofs.Sought.{touched-unused, touched-none, touched-unmarked, touched-marked}
+use Rattle.above.proofs.Sought.{touched-unused, touched-none, touched-unchosen, touched-chosen}
 use Rattle.above.proofs.find.touched.Statement.{statement}
 use Rattle.above.proofs.find.touched.Tie as tie
 
@@ -33,7 +33,7 @@ returns-3 c =
     let n = c .before .before .before in
     let v = n .before .before in
     let s = v .before .before .before .before in
-    touched-unmarked _ _ _ _ _ _ _ _ (v .value-at .ensures) (n .before .if1 .left) (n .near .ensures .is) (omega (arith, s .pre .0 .0 .laid .rows, c .before .before .if2 .left)) (not-true _ (c .if3 .taken))
+    touched-unchosen _ _ _ _ _ _ _ _ (v .value-at .ensures) (n .before .if1 .left) (n .near .ensures .is) (omega (arith, s .pre .0 .0 .laid .rows, c .before .before .if2 .left)) (not-true _ (c .if3 .taken))
 
 class-at-requires : tie.Need-class-at-requires
 class-at-requires c κs =
@@ -51,7 +51,7 @@ returns-4 c =
     let v = n .before .before in
     let s = v .before .before .before .before in
     ap₂ eqb (c .class-at2 .ensures) (c .before .class-at .ensures)
-    ∙ touched-marked
+    ∙ touched-chosen
     _ _ _ _ _ _ _ _
     (v .value-at .ensures)
     (n .before .if1 .left)

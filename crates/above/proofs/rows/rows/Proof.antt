@@ -15,18 +15,18 @@ use Rattle.above.proofs.rows.rows.Statement.{statement}
 use Rattle.above.proofs.rows.rows.Tie as tie
 
 abbrev Inv-loop : tie.InvT-loop
-Inv-loop values₀ classes₀ description relation part subject level kinds news owners marks gone rows i₀ values classes i =
+Inv-loop values₀ classes₀ description relation part subject level kinds news owners chosen gone rows i₀ values classes i =
     (i ≤ rows)
     × (length values ≡ length values₀)
     × (length classes ≡ length classes₀)
     × (stateOf description (holding values classes)
     ≡ changeLevel
     level
-    (withRows i (columnCount description relation) relation (λ j. rowAfter (rowCount description relation) (record { marks = marks; gone = gone; kinds = kinds; values = news; classes = owners }) subject (stateOf description (holding values₀ classes₀) subject .rows relation) (stateOf description (holding values₀ classes₀) level .rows relation j)))
+    (withRows i (columnCount description relation) relation (λ j. rowAfter (rowCount description relation) (record { chosen = chosen; gone = gone; kinds = kinds; values = news; classes = owners }) subject (stateOf description (holding values₀ classes₀) subject .rows relation) (stateOf description (holding values₀ classes₀) level .rows relation j)))
     (stateOf description (holding values₀ classes₀)))
 
 abbrev μ-loop : tie.MeasureT-loop
-μ-loop values₀ classes₀ description relation part subject level kinds news owners marks gone rows i₀ values classes i = rows - i
+μ-loop values₀ classes₀ description relation part subject level kinds news owners chosen gone rows i₀ values classes i = rows - i
 
 -- arrays have their length
 lists : (s : tie.Start Inv-loop μ-loop) → Lists (length (s .args .plan .kinds)) (length (s .args .plan .values)) (length (s .args .plan .classes))
@@ -38,8 +38,8 @@ lists s =
       classes = length-unmapped ℕ (s .args .plan .classes) 9 (g .1 .1 .0 .1 .0 .1);
     }
 
-marked : (s : tie.Start Inv-loop μ-loop) → length (s .args .plan .marks) ≡ 64
-marked s = length-unmapped Bool (s .args .plan .marks) 64 (s .good .1 .1 .1 .1 .1 .0 .1 .1 .0 .1 .0 .1)
+chosen : (s : tie.Start Inv-loop μ-loop) → length (s .args .plan .chosen) ≡ 64
+chosen s = length-unmapped Bool (s .args .plan .chosen) 64 (s .good .1 .1 .1 .1 .1 .0 .1 .1 .0 .1 .0 .1)
 
 loop-holds : tie.Need-loop-holds Inv-loop μ-loop
 loop-holds c = (omega arith, refl, refl, rows-start _ _ _ _ _)
@@ -54,7 +54,7 @@ slice-aggregate-row-3 : tie.Need-slice-aggregate-row-3 Inv-loop μ-loop
 slice-aggregate-row-3 c = sym (lists (c .before .before .before .before .before .before .before .before .before .before .before .before .before) .classes)
 
 slice-aggregate-row-4 : tie.Need-slice-aggregate-row-4 Inv-loop μ-loop
-slice-aggregate-row-4 c = sym (marked (c .before .before .before .before .before .before .before .before .before .before .before .before .before .before))
+slice-aggregate-row-4 c = sym (chosen (c .before .before .before .before .before .before .before .before .before .before .before .before .before .before))
 
 row-requires : tie.Need-row-requires Inv-loop μ-loop
 row-requires c κs =
@@ -68,7 +68,7 @@ row-requires c κs =
         s .pre .1 .1,
         rows-one _ _ _ _ _ _ _ _ _ _ _ _ (s .pre .1 .0 .other) (l .inv .3) (s .pre .1 .2),
         lists s,
-        marked s,
+        chosen s,
       ),
     )
 

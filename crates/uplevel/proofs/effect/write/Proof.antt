@@ -8,14 +8,14 @@ use borrow.Author.Needs.{needs}
 use Rattle.uplevel.proofs.effect.write.Statement.{statement}
 use Rattle.uplevel.proofs.effect.write.Tie as tie
 
-mark-requires : tie.Need-mark-requires
-mark-requires c κs = search needs
+choose-requires : tie.Need-choose-requires
+choose-requires c κs = search needs
 
 above-requires : tie.Need-above-requires
 unfolding planOf
 above-requires c κs =
     let s = c .before .before .before .before .before .before .before in
-    ((lent (s .pre .0 .0), working (s .pre .0 .0)), rw (c .before .before .before .before .mark .ensures) (planned _ _ _ _ _ _ _ (omega (arith, s .pre .0 .0 .laid .few, s .pre .0 .0 .laid .rows, s .pre .0 .1)) (s .pre .1 .0) (s .pre .1 .1) (s .pre .1 .2)))
+    ((lent (s .pre .0 .0), working (s .pre .0 .0)), rw (c .before .before .before .before .choose .ensures) (planned _ _ _ _ _ _ _ (omega (arith, s .pre .0 .0 .laid .few, s .pre .0 .0 .laid .rows, s .pre .0 .1)) (s .pre .1 .0) (s .pre .1 .1) (s .pre .1 .2)))
 
 store-requires : tie.Need-store-requires
 store-requires c κs =
@@ -34,9 +34,9 @@ returns : tie.Need-returns
 returns c =
     let k = c .before .before .before .before in
     let a = k .before .before .before .before .before .before .before in
-    written _ _ _ _ _ _ _ _ (a .before .before .before .before .before .mark .ensures) (a .above .ensures) (k .store .ensures)
+    written _ _ _ _ _ _ _ _ (a .before .before .before .before .before .choose .ensures) (a .above .ensures) (k .store .ensures)
 
 pub write-spec : {M : Type 1} → statement M
 write-spec =
     tie.close
-    (tie.spec mark-requires above-requires store-requires same-length same-length-2 returns)
+    (tie.spec choose-requires above-requires store-requires same-length same-length-2 returns)

@@ -1,4 +1,4 @@
--- The laws of marks: rows that are marked one after the other, narrowed condition by condition and counted.
+-- The laws of chosen rows: chosen one after the other, narrowed condition by condition, and counted.
 -- Assumes nothing.
 use mathlib.Core.Path.{_≡_, refl, sym, _∙_}
 use mathlib.Core.Bool.{Bool, true, false, not, _&&_, and-true, and-assoc}
@@ -19,7 +19,7 @@ use Rattle.model.specs.Buffers.{holding, stateOf}
 use Rattle.model.specs.Conditions.{Condition, conditionAt, conditionCount, meets, met}
 use Rattle.cells.specs.Changed.{valueAt}
 use Rattle.cells.proofs.Cells.{state-cell}
-use Rattle.conditions.specs.Facts.{Marked, Narrowed, usedRow, metAt}
+use Rattle.conditions.specs.Facts.{ChosenBy, Narrowed, usedRow, metAt}
 
 -- ---- row after row
 
@@ -29,29 +29,29 @@ none-set i =
     (λ t. getD-replicate 64 i false false (ltb-true i 64 t))
     (λ t. List·getD-eq-default (replicate 64 false) false {n = i} (ltb-false i 64 t))
 
-pub marked-none : (f : ℕ → Bool) → Marked 0 f (replicate 64 false)
-marked-none f = record { long = refl; right = below-none _; rest = λ i h. none-set i }
+pub chosen-none : (f : ℕ → Bool) → ChosenBy 0 f (replicate 64 false)
+chosen-none f = record { long = refl; right = below-none _; rest = λ i h. none-set i }
 
-pub marked-more : (n : ℕ) (f : ℕ → Bool) (marks : List Bool) (b : Bool) → n < 64 → b ≡ f n → Marked n f marks → Marked (n + 1) f (set marks n b)
-marked-more n f marks b h e M =
+pub chosen-more : (n : ℕ) (f : ℕ → Bool) (chosen : List Bool) (b : Bool) → n < 64 → b ≡ f n → ChosenBy n f chosen → ChosenBy (n + 1) f (set chosen n b)
+chosen-more n f chosen b h e M =
     record {
-      long = length-set marks n b ∙ M .long;
+      long = length-set chosen n b ∙ M .long;
       right = below-more _ n
-          (λ k l. getD-set-other marks n k b false (omega arith) ∙ M .right k l)
-          (getD-set-same marks n b false (omega (arith, M .long)) ∙ e);
-      rest = λ k l. getD-set-other marks n k b false (omega arith) ∙ M .rest k (omega arith);
+          (λ k l. getD-set-other chosen n k b false (omega arith) ∙ M .right k l)
+          (getD-set-same chosen n b false (omega (arith, M .long)) ∙ e);
+      rest = λ k l. getD-set-other chosen n k b false (omega arith) ∙ M .rest k (omega arith);
     }
 
-pub marked-end : (n m : ℕ) (f : ℕ → Bool) (marks : List Bool) → Marked m f marks → m ≤ n → n ≤ m → Marked n f marks
-marked-end n m f marks M h k = at-end (λ (i : ℕ). Marked i f marks) h k M
+pub chosen-end : (n m : ℕ) (f : ℕ → Bool) (chosen : List Bool) → ChosenBy m f chosen → m ≤ n → n ≤ m → ChosenBy n f chosen
+chosen-end n m f chosen M h k = at-end (λ (i : ℕ). ChosenBy i f chosen) h k M
 
--- ---- the marks narrowed, row after row
+-- ---- narrowed, row after row
 
 module _ (d : Description) (B : ℕ → Row) (q : Condition) (before : List Bool) where
   pub narrowed-none : length before ≡ 64 → Narrowed d B 0 q before before
   narrowed-none e = record { long = e; right = below-none _; rest = λ i h. refl }
 
-  -- a row that was marked
+  -- a row that was chosen
   pub narrowed-more : (n : ℕ) (after : List Bool) (b : Bool) → n < 64 → getD after n false ≡ true → b ≡ meets d q (B n) → Narrowed d B n q before after
       → Narrowed d B (n + 1) q before (set after n b)
   narrowed-more n after b h t e N =
@@ -89,27 +89,27 @@ used-state d vs cs r l i = rw (state-cell d vs cs r l i 1)
 unfoldable pub metBy : Description → List ℕ → (ℕ → Row) → ℕ → ℕ → Bool
 metBy d conditions B n i = used (B i) && allBelow n (λ k. meets d (conditionAt conditions k) (B i))
 
-pub met-start : (d : Description) (vs cs conditions : List ℕ) (r l n : ℕ) (marks : List Bool) → Marked n (usedRow d vs r l) marks
-    → Marked n (metBy d conditions (stateOf d (holding vs cs) l .rows r) 0) marks
+pub met-start : (d : Description) (vs cs conditions : List ℕ) (r l n : ℕ) (chosen : List Bool) → ChosenBy n (usedRow d vs r l) chosen
+    → ChosenBy n (metBy d conditions (stateOf d (holding vs cs) l .rows r) 0) chosen
 unfolding metBy allBelow
-met-start d vs cs conditions r l n marks M =
+met-start d vs cs conditions r l n chosen M =
     record { long = M .long; right = λ i h. M .right i h ∙ used-state d vs cs r l i ∙ sym (and-true (used (stateOf d (holding vs cs) l .rows r i))); rest = M .rest }
 
 module _ (d : Description) (conditions : List ℕ) (B : ℕ → Row) (rows : ℕ) where
-  pub met-more : (n : ℕ) (before after : List Bool) → Marked rows (metBy d conditions B n) before → Narrowed d B rows (conditionAt conditions n) before after
-      → Marked rows (metBy d conditions B (n + 1)) after
+  pub met-more : (n : ℕ) (before after : List Bool) → ChosenBy rows (metBy d conditions B n) before → Narrowed d B rows (conditionAt conditions n) before after
+      → ChosenBy rows (metBy d conditions B (n + 1)) after
   unfolding metBy allBelow
   met-more n before after M N =
       record { long = N .long; right = λ i h. N .right i h ∙ rw (M .right i h, add-one) (and-assoc (used (B i)) _ _); rest = λ i h. N .rest i h ∙ M .rest i h }
 
-  pub met-end : (n : ℕ) (marks : List Bool) → n ≡ conditionCount conditions → Marked rows (metBy d conditions B n) marks → Marked rows (metAt d conditions B) marks
+  pub met-end : (n : ℕ) (chosen : List Bool) → n ≡ conditionCount conditions → ChosenBy rows (metBy d conditions B n) chosen → ChosenBy rows (metAt d conditions B) chosen
   unfolding metBy metAt met
-  met-end n marks e M = record { long = M .long; right = λ i h. M .right i h ∙ rw e; rest = M .rest }
+  met-end n chosen e M = record { long = M .long; right = λ i h. M .right i h ∙ rw e; rest = M .rest }
 
 -- ---- at most one
 
-pub marked-one : (n : ℕ) (f : ℕ → Bool) (x y : List Bool) → Marked n f x → Marked n f y → x ≡ y
-marked-one n f x y p q =
+pub chosen-one : (n : ℕ) (f : ℕ → Bool) (x y : List Bool) → ChosenBy n f x → ChosenBy n f y → x ≡ y
+chosen-one n f x y p q =
     ext-getD false x y (p .long ∙ sym (q .long))
     (λ i h. cases (ltb i n)
     (λ t. let l = ltb-true i n t in p .right i l ∙ sym (q .right i l))

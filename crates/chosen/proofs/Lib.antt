@@ -1,2 +1,2 @@
 pub mod Carrying
-pub mod Marking
+pub mod Choosing

@@ -1,4 +1,4 @@
--- What a plan leaves above is what an effect leaves there; what stands is enough for the plan; and which rows are marked.
+-- What a plan leaves above is what an effect leaves there; what stands is enough for the plan; and which rows are chosen.
 -- Assumes nothing.
 use Prim.Native.Nat.{ℕ, zero, suc, _+_, _≤_, _<_}
 use mathlib.Core.Path.{_≡_, refl, sym, ap, _∙_}
@@ -31,12 +31,12 @@ use Rattle.cells.specs.declared.layout.Part.{Part}
 use Rattle.cells.specs.Changed.{changeLevel}
 use Rattle.cells.proofs.Cells.{state-path}
 use Rattle.cells.proofs.Changes.{change-here, change-other}
-use Rattle.conditions.specs.Facts.{Marked, Counted, metAt}
+use Rattle.conditions.specs.Facts.{ChosenBy, Counted, metAt}
 use Rattle.above.specs.declared.Plan.{Plan}
-use Rattle.above.specs.Facts.{markedAt, aboveOf, carried, withRows, Working}
+use Rattle.above.specs.Facts.{chosenAt, aboveOf, carried, withRows, Working}
 use Rattle.above.proofs.Carried.{carried-own, carried-aside, carried-cell}
 use Rattle.change.specs.Facts.{Standing}
-use Rattle.marks.specs.Marking.{Chosen, rowMarked}
+use Rattle.chosen.specs.Choosing.{Chosen, rowChosen}
 use Rattle.change.proofs.Answers.{left-own, left-over, left-other}
 
 -- ---- two effects above
@@ -74,30 +74,30 @@ module _ (d : Description) (c r : ℕ) (P : Plan) (S : State) (E : Effect) (G : 
 
 -- ---- the rows at c
 
-module _ (n m r : ℕ) (marks : List Bool) (F : Row → Row) (B : Level) (M : Chosen n (B .rows r) marks)
+module _ (n m r : ℕ) (chosen : List Bool) (F : Row → Row) (B : Level) (M : Chosen n (B .rows r) chosen)
     (past : (i k : ℕ) → between 1 m k ≡ false → F (B .rows r i) k ≡ B .rows r i k) where
   abbrev after : ℕ → Row
-  after i = rowMarked marks F i (B .rows r i)
+  after i = rowChosen chosen F i (B .rows r i)
 
-  row-as : (i k : ℕ) → after i k ≡ (if getD marks i false then F (B .rows r i) else B .rows r i) k
-  unfolding rowMarked
+  row-as : (i k : ℕ) → after i k ≡ (if getD chosen i false then F (B .rows r i) else B .rows r i) k
+  unfolding rowChosen
   row-as i k = refl
 
   beyond : (i k : ℕ) → between 1 m k ≡ false → (b : Bool) → B .rows r i k ≡ (if b then F (B .rows r i) else B .rows r i) k
   beyond i k e true = sym (past i k e)
   beyond i k e false = refl
 
-  pub own-marked : (s i k : ℕ) → withRows n m r after B .rows s i k ≡ (if eqb s r && getD marks i false then F (B .rows s i) else B .rows s i) k
+  pub own-chosen : (s i k : ℕ) → withRows n m r after B .rows s i k ≡ (if eqb s r && getD chosen i false then F (B .rows s i) else B .rows s i) k
   unfolding withRows
-  own-marked s i k =
+  own-chosen s i k =
       cases (eqb r s)
       (λ t. rw (← (eqb-true r s t), eq-eqb r r refl)
       (cases (ltb i n)
-      (λ u. cases (between 1 m k) (λ w. rw (u, w) (row-as i k)) (λ w. rw (u, w) (beyond i k w (getD marks i false))))
+      (λ u. cases (between 1 m k) (λ w. rw (u, w) (row-as i k)) (λ w. rw (u, w) (beyond i k w (getD chosen i false))))
       (λ u. rw (u, M .rest i (ltb-false i n u)))))
       (λ t. rw (t, ne-eqb s r (λ e. eqb-false r s t (sym e))))
 
--- ---- which rows are marked
+-- ---- which rows are chosen
 
 module _ (d : Description) (conditions : List ℕ) where
   -- a row that is not in use doesn't meet them
@@ -108,28 +108,28 @@ module _ (d : Description) (conditions : List ℕ) where
   met-real : (R : Row) → met d conditions R ≡ true → R 1 .value ≢ 0
   met-real R t e = clash t (unmet R e)
 
-  module _ (n : ℕ) (B : ℕ → Row) (marks : List Bool) (M : Marked n (metAt d conditions B) marks) where
-    marks-met : (i : ℕ) → i < n → getD marks i false ≡ met d conditions (B i)
+  module _ (n : ℕ) (B : ℕ → Row) (chosen : List Bool) (M : ChosenBy n (metAt d conditions B) chosen) where
+    chosen-met : (i : ℕ) → i < n → getD chosen i false ≡ met d conditions (B i)
     unfolding metAt
-    marks-met i h = M .right i h
+    chosen-met i h = M .right i h
 
     -- the row with a key
-    pub marked-met : (v : ℕ) → markedAt n marks B v ≡ met d conditions (seek n B v)
-    unfolding markedAt seek
-    marked-met v =
+    pub sought-met : (v : ℕ) → chosenAt n chosen B v ≡ met d conditions (seek n B v)
+    unfolding chosenAt seek
+    sought-met v =
         cases (ltb (place n B v) n)
-        (λ t. rw t (marks-met (place n B v) (ltb-true _ _ t)))
+        (λ t. rw t (chosen-met (place n B v) (ltb-true _ _ t)))
         (λ t. rw t (sym (unmet norow refl)))
 
-    pub chosen : Chosen n B marks
-    chosen = record { long = M .long; real = λ i h t. met-real (B i) (sym (marks-met i h) ∙ t); rest = M .rest }
+    pub met-chosen : Chosen n B chosen
+    met-chosen = record { long = M .long; real = λ i h t. met-real (B i) (sym (chosen-met i h) ∙ t); rest = M .rest }
 
     -- any row, where those past the last are empty
-    pub mark-met : ((i : ℕ) → n ≤ i → B i 1 .value ≡ 0) → (i : ℕ) → getD marks i false ≡ met d conditions (B i)
-    mark-met out i = cases (ltb i n) (λ t. marks-met i (ltb-true i n t)) (λ t. let h = ltb-false i n t in M .rest i h ∙ sym (unmet (B i) (out i h)))
+    pub row-met : ((i : ℕ) → n ≤ i → B i 1 .value ≡ 0) → (i : ℕ) → getD chosen i false ≡ met d conditions (B i)
+    row-met out i = cases (ltb i n) (λ t. chosen-met i (ltb-true i n t)) (λ t. let h = ltb-false i n t in M .rest i h ∙ sym (unmet (B i) (out i h)))
 
-    pub count-met : {k : ℕ} → Counted n marks k → k ≡ countBelow n (λ i. met d conditions (B i))
-    count-met C = C .is ∙ count-cong n _ _ (λ i h. marks-met i h)
+    pub count-met : {k : ℕ} → Counted n chosen k → k ≡ countBelow n (λ i. met d conditions (B i))
+    count-met C = C .is ∙ count-cong n _ _ (λ i h. chosen-met i h)
 
 -- some number below n is counted where there is one
 pub any-counted : (n : ℕ) (p : ℕ → Bool) → not (anyBelow n p) ≡ eqb (countBelow n p) 0

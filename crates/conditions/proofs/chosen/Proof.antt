@@ -1,20 +1,20 @@
--- The invariant: a row is marked where it is in use and meets the conditions that were passed.
+-- The invariant: a row is chosen where it is in use and meets the conditions that were passed.
 use Prim.Native.Nat.{_≤_, _-_}
 use native.Mathlib.Omega.{arith}
 use Rattle.model.specs.Description.{rowCount}
 use Rattle.model.specs.Buffers.{holding, stateOf}
 use Rattle.model.specs.Conditions.{conditionCount}
-use Rattle.conditions.specs.Facts.{Marked}
-use Rattle.conditions.proofs.Marking.{metBy, met-start, met-more, met-end}
-use Rattle.conditions.proofs.marks.Statement.{statement}
-use Rattle.conditions.proofs.marks.Tie as tie
+use Rattle.conditions.specs.Facts.{ChosenBy}
+use Rattle.conditions.proofs.Choosing.{metBy, met-start, met-more, met-end}
+use Rattle.conditions.proofs.chosen.Statement.{statement}
+use Rattle.conditions.proofs.chosen.Tie as tie
 
 abbrev Inv-loop : tie.InvT-loop
-Inv-loop values classes conditions description order relation part level marks₀ count i₀ marks i =
-    (i ≤ count) × Marked (rowCount description relation) (metBy description conditions (stateOf description (holding values classes) level .rows relation) i) marks
+Inv-loop values classes conditions description order relation part level chosen₀ count i₀ chosen i =
+    (i ≤ count) × ChosenBy (rowCount description relation) (metBy description conditions (stateOf description (holding values classes) level .rows relation) i) chosen
 
 abbrev μ-loop : tie.MeasureT-loop
-μ-loop values classes conditions description order relation part level marks₀ count i₀ marks i = count - i
+μ-loop values classes conditions description order relation part level chosen₀ count i₀ chosen i = count - i
 
 used-requires : tie.Need-used-requires Inv-loop μ-loop
 used-requires c κs =
@@ -47,8 +47,8 @@ returns c =
     let l = c .before .loop in
     met-end _ _ _ _ (l .i) _ (omega arith) (l .inv .1)
 
-pub marks-spec : {M : Type 1} → statement M
-marks-spec =
+pub chosen-spec : {M : Type 1} → statement M
+chosen-spec =
     tie.close
     (tie.spec
     Inv-loop
