@@ -9,6 +9,7 @@ use Rattle.model.specs.declared.What.the-variants as Whats
 use Rattle.model.specs.Numbers.{answerNumber, countOf}
 use Rattle.model.specs.Tables.{Cell}
 use Rattle.model.specs.Buffers.{Buffers}
+use Rattle.model.specs.Ledger.{Ledger, lending}
 use Rattle.model.specs.Run.{Request, Outcome, run}
 
 -- ---- requests
@@ -61,12 +62,26 @@ joined (xs ∷ xss) = xs ++ joined xss
 abbrev pub laidOut : List (List Cell) → Buffers
 laidOut levels = record { values = map (λ (x : Cell). x .value) (joined levels); classes = map (λ (x : Cell). x .class) (joined levels) }
 
+-- tables as the ledger that goes with them
+abbrev pub lent : Description → Buffers → Ledger
+lent d b = lending b
+
+abbrev pub laid : Description → List (List Cell) → Ledger
+laid d levels = lent d (laidOut levels)
+
 -- ---- runs
 
--- the last of some statements run one after the other
+-- one statement on tables
+abbrev pub ran : Description → Buffers → Request → Outcome
+ran d b q = run d (lent d b) q
+
+-- the last of some statements run one after the other, on a ledger and on tables
+abbrev pub lastOf : Description → Ledger → Request → List Request → Outcome
+lastOf d b q [] = run d b q
+lastOf d b q (p ∷ ps) = lastOf d (run d b q .ledger) p ps
+
 abbrev pub last : Description → Buffers → Request → List Request → Outcome
-last d b q [] = run d b q
-last d b q (p ∷ ps) = last d (run d b q .buffers) p ps
+last d b q qs = lastOf d (lent d b) q qs
 
 -- number, count and table buffers
 pub record Told : Type 0 where
@@ -75,7 +90,7 @@ pub record Told : Type 0 where
   pub tables : Buffers
 
 abbrev pub told : Outcome → Told
-told o = record { number = answerNumber (o .reply .answer); count = countOf (o .reply .answer); tables = o .buffers }
+told o = record { number = answerNumber (o .reply .answer); count = countOf (o .reply .answer); tables = o .ledger .tables }
 
 abbrev pub tells : ℕ → ℕ → List (List Cell) → Told
 tells number count levels = record { number = number; count = count; tables = laidOut levels }

@@ -11,7 +11,8 @@ use Rattle.model.specs.Numbers.{faultNumber, answerNumber, countOf, verd
 use Rattle.model.specs.Description.{between, distinctBelow, isLevel, over, labelOf, heightAt, isRelation, ofRelation, columnCount, rowCount, foreignOf, refersOf, isColumn, lowOf, highOf, inRange, sizeOf, startOf, totalOf, labelsSound, foreignSound, relationSound, sound}
 use Rattle.model.specs.Tables.{same, emptyRow, used, seen, place, seek, at, ownNull, lends}
 use Rattle.model.specs.Buffers.{fitting, inside, positionOf, rowsIn, stateOf, inOrder, buffersOf}
-use Rattle.model.specs.Judge.{fits, cellRight, referenceRight, rowRight, legal, judge}
+use Rattle.model.specs.Ledger.{seenPages, lentFits, pagesOf, ledgerOf}
+use Rattle.model.specs.Judge.{fits, cellRight, referenceRight, rowRight, legal, legalPages, judge}
 use Rattle.model.specs.Listed.{whole, pairs, columnAt, secondAt, each, listed, lists, columnsOnce, among, eachLevel, levelsOnce}
 use Rattle.model.specs.Conditions.{conditionAt, conditionCount, constantFormed, conditionFormed, conditionsFormed, passes, meetsTest, meets, met}
 use Rattle.model.specs.Effect.{agrees, changed, goneAt, reach, carry, applied, lowestEmpty, hasRoom, namesRow}
@@ -23,5 +24,5 @@ use Rattle.model.specs.Select.{selectFormed, asked, foundAt, found, valu
 use Rattle.model.specs.Run.{empty, formedAs, formed, further, firstFault, tests, refusal, effectAs, left, after, metCount, shownAs, countAs, refused, done, run}
 
 unfoldable pub computed : ℕ
-unfolding ones onesIn rankOf compartmentsOf contains dominates bottomLabel heightOf levelDominates upTo rowOf orderOf entryOf firstBelow allBelow anyBelow countBelow sumBelow foldBelow listBelow concatBelow writeAt faultNumber answerNumber countOf verdictNumber between distinctBelow isLevel over labelOf heightAt isRelation ofRelation columnCount rowCount foreignOf refersOf isColumn lowOf highOf inRange sizeOf startOf totalOf labelsSound foreignSound relationSound sound same emptyRow used seen place seek at ownNull lends fitting inside positionOf rowsIn stateOf inOrder buffersOf fits cellRight referenceRight rowRight legal judge whole pairs columnAt secondAt each listed lists columnsOnce among eachLevel levelsOnce conditionAt conditionCount constantFormed conditionFormed conditionsFormed passes meetsTest meets met agrees changed goneAt reach carry applied lowestEmpty hasRoom namesRow keyListed insertFormed listedNames insertTests newRow inserted referred deleteTests deleted updateFormed anyMet updateTests setIn takeIn updated uplevelFormed based entityOf borrowedNames uplevelTests borrowed raised placed uplevelled selectFormed asked foundAt found valuesShown ownersShown selectTests empty formedAs formed further firstFault tests refusal effectAs left after metCount shownAs countAs refused done run
+unfolding ones onesIn rankOf compartmentsOf contains dominates bottomLabel heightOf levelDominates upTo rowOf orderOf entryOf firstBelow allBelow anyBelow countBelow sumBelow foldBelow listBelow concatBelow writeAt faultNumber answerNumber countOf verdictNumber between distinctBelow isLevel over labelOf heightAt isRelation ofRelation columnCount rowCount foreignOf refersOf isColumn lowOf highOf inRange sizeOf startOf totalOf labelsSound foreignSound relationSound sound same emptyRow used seen place seek at ownNull lends fitting inside positionOf rowsIn stateOf inOrder buffersOf seenPages lentFits pagesOf ledgerOf fits cellRight referenceRight rowRight legal legalPages judge whole pairs columnAt secondAt each listed lists columnsOnce among eachLevel levelsOnce conditionAt conditionCount constantFormed conditionFormed conditionsFormed passes meetsTest meets met agrees changed goneAt reach carry applied lowestEmpty hasRoom namesRow keyListed insertFormed listedNames insertTests newRow inserted referred deleteTests deleted updateFormed anyMet updateTests setIn takeIn updated uplevelFormed based entityOf borrowedNames uplevelTests borrowed raised placed uplevelled selectFormed asked foundAt found valuesShown ownersShown selectTests empty formedAs formed further firstFault tests refusal effectAs left after metCount shownAs countAs refused done run
 computed = 0

@@ -9,18 +9,18 @@ use Rattle.model.specs.Numbers.{verdictNumber}
 use Rattle.model.specs.Tables.{Cell, cell, nocell}
 use Rattle.model.specs.Judge.{judge}
 use Rattle.model.proofs.Computed.{computed}
-use Rattle.model.proofs.Build.{laidOut, Each}
+use Rattle.model.proofs.Build.{laidOut, lent, Each}
 use Rattle.model.proofs.Worked.{described, five, one, no₁, two, no₂, levels, x₀, x₁, x₂, X, row₁, row₈, ref}
 
 abbrev judged : List (List Cell) → ℕ
-judged b = verdictNumber (judge five (laidOut b))
+judged b = verdictNumber (judge five (lent five (laidOut b)))
 
 -- column 3 of relation 1 ends at level 2
 abbrev narrow : Description
 narrow = described (0 ∷ 1 ∷ 2 ∷ 3 ∷ 259 ∷ []) (replicate 81 0) (set (replicate 81 4) 12 2)
 
 abbrev narrowly : List (List Cell) → ℕ
-narrowly b = verdictNumber (judge narrow (laidOut b))
+narrowly b = verdictNumber (judge narrow (lent narrow (laidOut b)))
 
 -- one level of relation 1 with two rows
 abbrev both : Cell → Cell → Cell → Cell → Cell → Cell → List Cell

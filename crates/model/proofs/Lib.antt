@@ -9,3 +9,4 @@ pub mod Refusals
 pub mod Judging
 pub mod Sound
 pub mod Border
+pub mod Pages

@@ -8,13 +8,13 @@ use Rattle.model.specs.declared.Description.{Description}
 use Rattle.model.specs.declared.What.the-variants as Whats
 use Rattle.model.specs.Numbers.{answerNumber}
 use Rattle.model.specs.Tables.{Cell, cell, nocell}
-use Rattle.model.specs.Run.{Request, run}
+use Rattle.model.specs.Run.{Request}
 use Rattle.model.proofs.Computed.{computed}
-use Rattle.model.proofs.Build.{request, insertAt, deleteAt, updateAt, uplevelAt, selectAt, key, laidOut, told, tells, Each}
+use Rattle.model.proofs.Build.{request, insertAt, deleteAt, updateAt, uplevelAt, selectAt, key, laidOut, ran, told, tells, Each}
 use Rattle.model.proofs.Worked.{described, five, one, no₁, two, no₂, levels, x₀, x₁, x₂, X, row₁, row₈, ref}
 
 abbrev answered : Description → List (List Cell) → Request → ℕ
-answered d b q = answerNumber (run d (laidOut b) q .reply .answer)
+answered d b q = answerNumber (ran d (laidOut b) q .reply .answer)
 
 -- ---- the order
 
@@ -87,7 +87,7 @@ least-is-given =
 
 abbrev lengths : ℕ → ℕ → ℕ
 lengths values classes =
-    answerNumber (run five (record { values = replicate values 0; classes = replicate classes 255 }) (deleteAt 0 1 []) .reply .answer)
+    answerNumber (ran five (record { values = replicate values 0; classes = replicate classes 255 }) (deleteAt 0 1 []) .reply .answer)
 
 pub lengths-held : Each (
     (lengths 50 50, 0) ∷ (lengths 49 50, 2) ∷ (lengths 51 50, 2) ∷ (lengths 50 49, 2) ∷ (lengths 50 51, 2) ∷ (lengths 49 49, 2) ∷ (lengths 0 0, 2)
@@ -161,10 +161,10 @@ lists-held = (refl, (refl, (refl, (refl, (refl, (refl, (refl, (refl, tt))))))))
 
 -- ---- "Each refusal has count 0 and changes no buffer."
 pub refusal-changes-nothing : Each (
-    (told (run five (laidOut illegal) (deleteAt 0 1 [])), tells 3 0 illegal)
-    ∷ (told (run five (laidOut longer) (deleteAt 0 1 [])), tells 2 0 longer)
-    ∷ (told (run unsound (laidOut longer) (deleteAt 0 1 [])), tells 1 0 longer)
-    ∷ (told (run five (laidOut several) (uplevelAt 4 1 7 255 [])), tells 8 0 several)
+    (told (ran five (laidOut illegal) (deleteAt 0 1 [])), tells 3 0 illegal)
+    ∷ (told (ran five (laidOut longer) (deleteAt 0 1 [])), tells 2 0 longer)
+    ∷ (told (ran unsound (laidOut longer) (deleteAt 0 1 [])), tells 1 0 longer)
+    ∷ (told (ran five (laidOut several) (uplevelAt 4 1 7 255 [])), tells 8 0 several)
     ∷ [])
 unfolding computed
 refusal-changes-nothing = (refl, (refl, (refl, (refl, tt))))

@@ -7,7 +7,7 @@ use Rattle.model.specs.declared.Description.{Description}
 use Rattle.model.specs.declared.Answer.the-variants as Answers
 use Rattle.model.specs.Tables.{cell, nocell}
 use Rattle.model.proofs.Computed.{computed}
-use Rattle.model.proofs.Build.{insertAt, uplevelAt, selectAt, laidOut, last}
+use Rattle.model.proofs.Build.{insertAt, uplevelAt, selectAt, laidOut, lent, last}
 
 -- labels 0 and 1; two columns, two rows a level, no foreign key, ranges 0 to 1
 abbrev pair : Description
@@ -35,7 +35,7 @@ pub sample
         shown = 7 ∷ 20 ∷ 7 ∷ 20 ∷ 9 ∷ [];
         owners = 0 ∷ 0 ∷ 0 ∷ 0 ∷ 0 ∷ 1 ∷ 8 ∷ [];
       };
-      buffers = laidOut ((cell 7 0 ∷ cell 20 0 ∷ nocell ∷ nocell ∷ []) ∷ (cell 7 0 ∷ cell 20 0 ∷ nocell ∷ nocell ∷ []) ∷ []);
+      ledger = lent pair (laidOut ((cell 7 0 ∷ cell 20 0 ∷ nocell ∷ nocell ∷ []) ∷ (cell 7 0 ∷ cell 20 0 ∷ nocell ∷ nocell ∷ []) ∷ []));
     }
 unfolding computed
 sample = refl

@@ -6,9 +6,9 @@ use Prim.Native.Nat.{ℕ}
 use lib.ListN.{replicate}
 use Rattle.model.specs.declared.Description.{Description}
 use Rattle.model.specs.Tables.{Cell, cell, nocell}
-use Rattle.model.specs.Run.{Request, run}
+use Rattle.model.specs.Run.{Request}
 use Rattle.model.proofs.Computed.{computed}
-use Rattle.model.proofs.Build.{insertAt, deleteAt, updateAt, uplevelAt, key, laidOut, last, Told, told, tells, Each}
+use Rattle.model.proofs.Build.{insertAt, deleteAt, updateAt, uplevelAt, key, laidOut, ran, last, Told, told, tells, Each}
 
 -- five levels; "Relations have two rows a level. Relation 1: three columns", "relation 2 (key, reference to 1 ..)"
 abbrev pub described : List ℕ → List ℕ → List ℕ → Description
@@ -90,7 +90,7 @@ unfoldable pub worked : List (Told × Told)
 worked =
     let start = laidOut (X no₁ no₂ no₂) in
     -- "P1 UPLEVEL at 3, key 7, column 2 FROM 1, 3 FROM 2: row 7/0 21/1 31/2."
-    (told (run five start p₁), tells 0 1 (X (one (cell 7 0) (cell 21 1) (cell 31 2)) no₂ no₂))
+    (told (ran five start p₁), tells 0 1 (X (one (cell 7 0) (cell 21 1) (cell 31 2)) no₂ no₂))
     -- "P2 then UPDATE at 3, column 3 = 32: 7/0 21/1 32/3."
     ∷ (told (last five start p₁ (p₂ ∷ [])), tells 0 1 (X (one (cell 7 0) (cell 21 1) (cell 32 3)) no₂ no₂))
     -- "P3 then UPDATE at 1, column 2 = 22: level 1 has 22/1, level 3 is 7/0 22/1 32/3."
@@ -109,27 +109,27 @@ worked =
       tells 0 1 (levels x₀ (one (cell 7 0) (cell 20 0) (cell 30 0)) x₂ (one (cell 7 0) (cell 0 1) (cell 32 3)) no₂ no₂),
     )
     -- "P6 X, UPLEVEL at 3, 2 FROM 2: 7/0 0/2 0/3."
-    ∷ (told (run five start (uplevelAt 3 1 7 255 (2 ∷ 2 ∷ []))), tells 0 1 (X (one (cell 7 0) (cell 0 2) (cell 0 3)) no₂ no₂))
+    ∷ (told (ran five start (uplevelAt 3 1 7 255 (2 ∷ 2 ∷ []))), tells 0 1 (X (one (cell 7 0) (cell 0 2) (cell 0 3)) no₂ no₂))
     -- "P7 X, DELETE at 0: all empty, count 1."
-    ∷ (told (run five start (deleteAt 0 1 [])), tells 0 1 (levels no₁ no₁ no₁ no₁ no₂ no₂))
+    ∷ (told (ran five start (deleteAt 0 1 [])), tells 0 1 (levels no₁ no₁ no₁ no₁ no₂ no₂))
     -- "P8 X, INSERT key 7 at 1: 9. At 3 with column 2 = 5: 7/3 5/3 0/3."
-    ∷ (told (run five start (insertAt 1 1 (1 ∷ 7 ∷ []))), tells 9 0 (X no₁ no₂ no₂))
-    ∷ (told (run five start p₈), tells 0 1 (X (one (cell 7 3) (cell 5 3) (cell 0 3)) no₂ no₂))
+    ∷ (told (ran five start (insertAt 1 1 (1 ∷ 7 ∷ []))), tells 9 0 (X no₁ no₂ no₂))
+    ∷ (told (ran five start p₈), tells 0 1 (X (one (cell 7 3) (cell 5 3) (cell 0 3)) no₂ no₂))
     -- "P9 after that, UPLEVEL at 4, key 7: 8. With key class 3, 2 FROM 1: 10."
     ∷ (told (last five start p₈ (uplevelAt 4 1 7 255 [] ∷ [])), tells 8 0 (X row₈ no₂ no₂))
     ∷ (told (last five start p₈ (uplevelAt 4 1 7 3 (2 ∷ 1 ∷ []) ∷ [])), tells 10 0 (X row₈ no₂ no₂))
     -- "P10 X, UPLEVEL at 1, 2 FROM 2: 5."
-    ∷ (told (run five start (uplevelAt 1 1 7 255 (2 ∷ 2 ∷ []))), tells 5 0 (X no₁ no₂ no₂))
+    ∷ (told (ran five start (uplevelAt 1 1 7 255 (2 ∷ 2 ∷ []))), tells 5 0 (X no₁ no₂ no₂))
     -- "P11 P1 plus relation 2 .., level 1: 50/1 7/1. DELETE key 7 from relation 1 at 1: 12; at 0: relation 1 empty, relation 2 is 50/1 0/1."
-    ∷ (told (run five (laidOut (X row₁ ref no₂)) (deleteAt 1 1 (key 7))), tells 12 0 (X row₁ ref no₂))
+    ∷ (told (ran five (laidOut (X row₁ ref no₂)) (deleteAt 1 1 (key 7))), tells 12 0 (X row₁ ref no₂))
     ∷ (
-      told (run five (laidOut (X row₁ ref no₂)) (deleteAt 0 1 (key 7))),
+      told (ran five (laidOut (X row₁ ref no₂)) (deleteAt 0 1 (key 7))),
       tells 0 1 (levels no₁ no₁ no₁ no₁ (two (cell 50 1) (cell 0 1)) no₂),
     )
     -- "P12 same, UPLEVEL of 50 at 3, 2 FROM 1: 50/1 7/1. With P8's row at level 3 in place of P1's: 50/1 0/3. With none: 11."
-    ∷ (told (run five (laidOut (X row₁ ref no₂)) p₁₂), tells 0 1 (X row₁ ref (two (cell 50 1) (cell 7 1))))
-    ∷ (told (run five (laidOut (X row₈ ref no₂)) p₁₂), tells 0 1 (X row₈ ref (two (cell 50 1) (cell 0 3))))
-    ∷ (told (run five (laidOut (X no₁ ref no₂)) p₁₂), tells 11 0 (X no₁ ref no₂))
+    ∷ (told (ran five (laidOut (X row₁ ref no₂)) p₁₂), tells 0 1 (X row₁ ref (two (cell 50 1) (cell 7 1))))
+    ∷ (told (ran five (laidOut (X row₈ ref no₂)) p₁₂), tells 0 1 (X row₈ ref (two (cell 50 1) (cell 0 3))))
+    ∷ (told (ran five (laidOut (X no₁ ref no₂)) p₁₂), tells 11 0 (X no₁ ref no₂))
     ∷ []
 
 pub P1-to-P12 : Each worked

@@ -10,7 +10,7 @@ use Rattle.model.specs.declared.Verdict.{Verdict}
 use Rattle.model.specs.declared.Verdict.the-variants as Verdicts
 use Rattle.model.specs.Description.{over, columnCount, rowCount, foreignOf, refersOf, inRange, sound}
 use Rattle.model.specs.Tables.{Cell, Row, Tables, nocell, same, used, emptyRow, place, at, lends, State, rowsOf}
-use Rattle.model.specs.Buffers.{Buffers, fitting, stateOf}
+use Rattle.model.specs.Ledger.{Ledger, Pages, cellsOf, lentFits, pagesOf}
 
 -- class b may stand in column k of a row at l whose key's class is a: in range, below TC, above the key's
 unfoldable pub fits : Description → ℕ → ℕ → ℕ → ℕ → ℕ → Bool
@@ -39,10 +39,13 @@ rowRight d T r l i =
 unfoldable pub legal : Description → State → Bool
 legal d S = allBelow (d .relations) (λ r. allBelow (d .levels) (λ l. allBelow (rowCount d (suc r)) (λ i. rowRight d (rowsOf S) (suc r) l i)))
 
+unfoldable pub legalPages : Description → Pages → Bool
+legalPages d P = legal d (cellsOf P)
+
 -- "a judge of tables (0 for legal, else the least of 1 to 3)"
-unfoldable pub judge : Description → Buffers → Verdict
+unfoldable pub judge : Description → Ledger → Verdict
 judge d b =
     if not (sound d) then Verdicts.Description
-    else if not (fitting d b) then Verdicts.Length
-    else if not (legal d (stateOf d b)) then Verdicts.Illegal
+    else if not (lentFits d b) then Verdicts.Length
+    else if not (legalPages d (pagesOf d b)) then Verdicts.Illegal
     else Verdicts.Legal

@@ -8,6 +8,7 @@ use mathlib.Core.Bool.{true}
 use Rattle.model.specs.declared.Description.{Description}
 use Rattle.model.specs.Description.{over, rowCount, foreignOf, refersOf, inRange}
 use Rattle.model.specs.Tables.{Tables, nocell, State, rowsOf}
+use Rattle.model.specs.Ledger.{Pages, cellsOf}
 
 -- "Tables are legal when every non-empty row and cell satisfies:"
 pub record Legal (d : Description) (T : Tables) : Type 0 where
@@ -43,3 +44,7 @@ pub record Legal (d : Description) (T : Tables) : Type 0 where
 
 abbrev pub LegalState : Description → State → Type 0
 LegalState d S = Legal d (rowsOf S)
+
+-- the pages of all levels are legal: their cells are
+abbrev pub LegalPages : Description → Pages → Type 0
+LegalPages d P = LegalState d (cellsOf P)

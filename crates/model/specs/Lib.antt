@@ -2,6 +2,7 @@ pub mod Numbers
 pub mod Description
 pub mod Tables
 pub mod Buffers
+pub mod Ledger
 pub mod Legal
 pub mod Judge
 pub mod Listed

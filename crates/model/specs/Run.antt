@@ -1,5 +1,5 @@
--- The whole of one call: from a description, the table buffers, a statement with its lists and its output buffers to an answer and the
--- buffers at exit.
+-- The whole of one call: from a description, the ledger, a statement with its lists and its output buffers to an answer, the output buffers
+-- and the ledger at exit.
 -- Assumes nothing: these are definitions.
 use Prim.Native.Nat.{ℕ}
 use mathlib.Core.Bool.{Bool, _&&_}
@@ -20,8 +20,8 @@ use Rattle.model.specs.declared.Answer.{Answer}
 use Rattle.model.specs.declared.Answer.the-variants as Answers
 use Rattle.model.specs.Description.{isLevel, isRelation, rowCount, sound}
 use Rattle.model.specs.Tables.{State, rowsOf, seen}
-use Rattle.model.specs.Buffers.{Buffers, fitting, stateOf, buffersOf}
-use Rattle.model.specs.Judge.{legal}
+use Rattle.model.specs.Ledger.{Ledger, Pages, cellsOf, lentFits, pagesOf, ledgerOf}
+use Rattle.model.specs.Judge.{legalPages}
 use Rattle.model.specs.Conditions.{conditionsFormed, met}
 use Rattle.model.specs.Effect.{Effect, applied}
 use Rattle.model.specs.Insert.{insertFormed, insertTests, inserted}
@@ -78,18 +78,18 @@ firstFault [] = none
 firstFault (t ∷ ts) = if t .0 then firstFault ts else some (t .1)
 
 -- the tests of a statement on legal tables, worked out from what its subject sees
-unfoldable pub tests : Description → Request → State → List (Bool × Fault)
-tests d q S = (formed d q, Faults.Malformed) ∷ further d q (q .statement .what) (seen d (subject q) S)
+unfoldable pub tests : Description → Request → Pages → List (Bool × Fault)
+tests d q P = (formed d q, Faults.Malformed) ∷ further d q (q .statement .what) (seen d (subject q) (cellsOf P))
 
 -- all tests of a call, each with the fault that is given where it fails
-abbrev pub allTests : Description → Buffers → Request → List (Bool × Fault)
+abbrev pub allTests : Description → Ledger → Request → List (Bool × Fault)
 allTests d b q =
     (sound d, Faults.Description)
-    ∷ (fitting d b, Faults.Length)
-    ∷ (legal d (stateOf d b), Faults.Illegal)
-    ∷ tests d q (stateOf d b)
+    ∷ (lentFits d b, Faults.Length)
+    ∷ (legalPages d (pagesOf d b), Faults.Illegal)
+    ∷ tests d q (pagesOf d b)
 
-unfoldable pub refusal : Description → Buffers → Request → Option Fault
+unfoldable pub refusal : Description → Ledger → Request → Option Fault
 refusal d b q = firstFault (allTests d b q)
 
 -- ---- what is left
@@ -103,13 +103,16 @@ effectAs d q (Whats.Uplevel key class) S =
     some (uplevelled d (subject q) (relation q) (entityOf d (subject q) (relation q) key class (rowsOf S)) (q .list) (rowsOf S))
 effectAs d q Whats.Select S = none
 
--- the state T after that
+-- the cells T after that
 unfoldable pub left : Description → ℕ → Option Effect → State → State
 left d c none T = T
 left d c (some E) T = λ l. record { rows = λ r i. applied d c E (rowsOf T) r l i }
 
-unfoldable pub after : Description → Request → State → State
-after d q S = left d (subject q) (effectAs d q (q .statement .what) (seen d (subject q) S)) S
+-- what each level keeps after it
+unfoldable pub after : Description → Request → Pages → Pages
+after d q P =
+    let T = left d (subject q) (effectAs d q (q .statement .what) (seen d (subject q) (cellsOf P))) (cellsOf P) in
+    λ l. record { cells = T l }
 
 -- ---- what is answered
 
@@ -142,7 +145,7 @@ pub record Reply : Type 0 where
 
 pub record Outcome : Type 0 where
   pub reply : Reply
-  pub buffers : Buffers
+  pub ledger : Ledger
 
 -- "Each refusal has count 0 and changes no buffer."
 unfoldable pub refused : Request → Fault → Reply
@@ -158,10 +161,10 @@ done d q S =
       owners = writeAt 0 (ownersShown rows) (q .owners);
     }
 
-unfoldable pub run : Description → Buffers → Request → Outcome
+unfoldable pub run : Description → Ledger → Request → Outcome
 run d b q =
-    let S = stateOf d b in
+    let P = pagesOf d b in
     elim (refusal d b q) [
-      | some fault ↦ record { reply = refused q fault; buffers = b }
-      | none ↦ record { reply = done d q (seen d (subject q) S); buffers = buffersOf d (after d q S) }
+      | some fault ↦ record { reply = refused q fault; ledger = b }
+      | none ↦ record { reply = done d q (seen d (subject q) (cellsOf P)); ledger = ledgerOf d (after d q P) }
     ]

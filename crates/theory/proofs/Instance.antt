@@ -11,10 +11,10 @@ use Rattle.model.specs.declared.Answer.the-variants as Answers
 use Rattle.model.specs.declared.Fault.the-variants as Faults
 use Rattle.model.specs.Description.{sound}
 use Rattle.model.specs.Tables.{Cell, cell, at}
-use Rattle.model.specs.Buffers.{Buffers}
+use Rattle.model.specs.Ledger.{Ledger}
 use Rattle.model.specs.Run.{Request}
 use Rattle.model.proofs.Computed.{computed}
-use Rattle.model.proofs.Build.{updateAt, uplevelAt, selectAt, laidOut}
+use Rattle.model.proofs.Build.{updateAt, uplevelAt, selectAt, laid}
 use Rattle.model.proofs.Worked.{five, one, no₁, no₂, levels, x₀, x₁, x₂, X, row₁}
 use Rattle.theory.specs.Laws.{Laws}
 use Rattle.theory.specs.Theorems.{Yes, tables, leaves, hears, Kept, Apart, Commute, Lists, Silent}
@@ -22,7 +22,7 @@ use Rattle.theory.proofs.Described.{sound-laws}
 use Rattle.theory.proofs.Theorems.{stays-legal, refusal-keeps, apart-commute}
 use Rattle.theory.proofs.Silence.{silence-shows}
 
--- ---- the worked description and tables X, with P1's row at level 3
+-- ---- the worked description and tables X, with P1's row at level 3, as a ledger
 
 five-sound : sound five ≡ true
 unfolding computed
@@ -31,8 +31,8 @@ five-sound = refl
 pub five-laws : Laws five
 five-laws = sound-laws five five-sound
 
-abbrev pub start : Buffers
-start = laidOut (X row₁ no₂ no₂)
+abbrev pub start : Ledger
+start = laid five (X row₁ no₂ no₂)
 
 pub start-legal : Yes five start
 unfolding computed
@@ -52,11 +52,11 @@ unfolding computed
 sides-apart = record { not-over = false≢true; not-under = false≢true }
 
 -- each changes level 3, which borrows from both: 7/0 21/1 31/2 becomes 7/0 22/1 31/2, and 7/0 21/1 33/2
-pub one-changes-above : leaves five one-side start ≡ laidOut (levels x₀ (one (cell 7 0) (cell 22 1) (cell 30 0)) x₂ (one (cell 7 0) (cell 22 1) (cell 31 2)) no₂ no₂)
+pub one-changes-above : leaves five one-side start ≡ laid five (levels x₀ (one (cell 7 0) (cell 22 1) (cell 30 0)) x₂ (one (cell 7 0) (cell 22 1) (cell 31 2)) no₂ no₂)
 unfolding computed
 one-changes-above = refl
 
-pub other-changes-above : leaves five other-side start ≡ laidOut (levels x₀ x₁ (one (cell 7 0) (cell 20 0) (cell 33 2)) (one (cell 7 0) (cell 21 1) (cell 33 2)) no₂ no₂)
+pub other-changes-above : leaves five other-side start ≡ laid five (levels x₀ x₁ (one (cell 7 0) (cell 20 0) (cell 33 2)) (one (cell 7 0) (cell 21 1) (cell 33 2)) no₂ no₂)
 unfolding computed
 other-changes-above = refl
 
@@ -85,18 +85,18 @@ short-keeps = refusal-keeps five start short Faults.Short short-refused
 abbrev borrowing : Request
 borrowing = uplevelAt 3 1 7 255 (2 ∷ 2 ∷ [])
 
-pub borrowing-done : hears five borrowing (laidOut (X no₁ no₂ no₂)) .answer ≡ Answers.Done 1
+pub borrowing-done : hears five borrowing (laid five (X no₁ no₂ no₂)) .answer ≡ Answers.Done 1
 unfolding computed
 borrowing-done = refl
 
-pub borrowing-lists : Lists five (laidOut (X no₁ no₂ no₂)) borrowing (cell 7 0) 2 2
+pub borrowing-lists : Lists five (laid five (X no₁ no₂ no₂)) borrowing (cell 7 0) 2 2
 unfolding computed
 borrowing-lists = record { class = 255; what = refl; is = refl; column = refl }
 
-pub borrowing-silent : Silent five (laidOut (X no₁ no₂ no₂)) 1 (cell 7 0) 2 2
+pub borrowing-silent : Silent five (laid five (X no₁ no₂ no₂)) 1 (cell 7 0) 2 2
 unfolding computed
 borrowing-silent v n e f = let z : _≡_ {A = ℕ} 0 2 = ap (λ (x : Cell). x .class) f in omega arith
 
 -- so level 3 shows level 2 with nothing, and not the 20 that level 2 has from level 0
-pub silence-shown : at five (tables five (leaves five borrowing (laidOut (X no₁ no₂ no₂)))) 1 3 7 2 ≡ cell 0 2
-silence-shown = silence-shows five (laidOut (X no₁ no₂ no₂)) borrowing (cell 7 0) 2 2 1 borrowing-done borrowing-lists borrowing-silent .1
+pub silence-shown : at five (tables five (leaves five borrowing (laid five (X no₁ no₂ no₂)))) 1 3 7 2 ≡ cell 0 2
+silence-shown = silence-shows five (laid five (X no₁ no₂ no₂)) borrowing (cell 7 0) 2 2 1 borrowing-done borrowing-lists borrowing-silent .1

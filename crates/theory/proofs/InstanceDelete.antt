@@ -6,18 +6,18 @@ use mathlib.Core.List.{[]}
 use native.Mathlib.Omega.{arith}
 use Rattle.model.specs.declared.Answer.the-variants as Answers
 use Rattle.model.specs.Tables.{cell}
-use Rattle.model.specs.Buffers.{Buffers}
+use Rattle.model.specs.Ledger.{Ledger}
 use Rattle.model.specs.Run.{Request}
 use Rattle.model.proofs.Computed.{computed}
-use Rattle.model.proofs.Build.{deleteAt, key, laidOut}
+use Rattle.model.proofs.Build.{deleteAt, key, laid}
 use Rattle.model.proofs.Worked.{five, no₂, X, row₁, ref}
 use Rattle.theory.specs.Theorems.{tables, leaves, hears, Deleted, Emptied, NamesEmptied, Lent}
 use Rattle.theory.proofs.Said.{delete-as-said}
 
 -- ---- P11 at 0: the entity is level 0's own, and level 1 refers to it
 
-abbrev referred : Buffers
-referred = laidOut (X row₁ ref no₂)
+abbrev referred : Ledger
+referred = laid five (X row₁ ref no₂)
 
 abbrev lowest : Request
 lowest = deleteAt 0 1 (key 7)
@@ -54,8 +54,8 @@ reference-null = delete-as-said five referred lowest 1 refl lowest-done .referen
 
 -- ---- P1, then DELETE at 1, where the entity is level 0's: level 3 has column 2 from level 1, and column 3 from level 2
 
-abbrev lending : Buffers
-lending = laidOut (X row₁ no₂ no₂)
+abbrev lending : Ledger
+lending = laid five (X row₁ no₂ no₂)
 
 abbrev lender : Request
 lender = deleteAt 1 1 []

@@ -8,7 +8,7 @@ use Rattle.model.specs.declared.Verdict.the-variants as Verdicts
 use Rattle.model.specs.Tables.{Cell, cell, nocell}
 use Rattle.model.specs.Judge.{judge}
 use Rattle.model.proofs.Computed.{computed}
-use Rattle.model.proofs.Build.{laidOut}
+use Rattle.model.proofs.Build.{laid}
 use Rattle.model.proofs.Worked.{described, five, one, no₂, X, row₁}
 
 -- a row whose key is null and whose other cells aren't
@@ -19,18 +19,18 @@ illegal = X (one nocell (cell 5 3) nocell) no₂ no₂
 abbrev unsound : Description
 unsound = described (0 ∷ 1 ∷ 2 ∷ 3 ∷ 259 ∷ []) (replicate 81 4) (replicate 81 0)
 
-pub says-legal : judge five (laidOut (X row₁ no₂ no₂)) ≡ Verdicts.Legal
+pub says-legal : judge five (laid five (X row₁ no₂ no₂)) ≡ Verdicts.Legal
 unfolding computed
 says-legal = refl
 
-pub says-illegal : judge five (laidOut illegal) ≡ Verdicts.Illegal
+pub says-illegal : judge five (laid five illegal) ≡ Verdicts.Illegal
 unfolding computed
 says-illegal = refl
 
-pub says-length : judge five (laidOut (illegal ++ ((nocell ∷ []) ∷ []))) ≡ Verdicts.Length
+pub says-length : judge five (laid five (illegal ++ ((nocell ∷ []) ∷ []))) ≡ Verdicts.Length
 unfolding computed
 says-length = refl
 
-pub says-description : judge unsound (laidOut illegal) ≡ Verdicts.Description
+pub says-description : judge unsound (laid unsound illegal) ≡ Verdicts.Description
 unfolding computed
 says-description = refl

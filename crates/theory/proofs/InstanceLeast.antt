@@ -7,17 +7,17 @@ use mathlib.Core.List.{[], _∷_}
 use native.Mathlib.Omega.{arith}
 use Rattle.model.specs.declared.Answer.the-variants as Answers
 use Rattle.model.specs.declared.Fault.the-variants as Faults
-use Rattle.model.specs.Buffers.{Buffers}
+use Rattle.model.specs.Ledger.{Ledger}
 use Rattle.model.specs.Run.{Request, allTests}
 use Rattle.model.proofs.Computed.{computed}
-use Rattle.model.proofs.Build.{insertAt, laidOut}
+use Rattle.model.proofs.Build.{insertAt, laid}
 use Rattle.model.proofs.Worked.{five, no₁, no₂, X, ref}
 use Rattle.theory.specs.Places.{entryAt}
 use Rattle.theory.specs.Theorems.{hears, Test, numberOf, First}
 use Rattle.theory.proofs.Least.{least-given}
 
-abbrev stored : Buffers
-stored = laidOut (X no₁ ref no₂)
+abbrev stored : Ledger
+stored = laid five (X no₁ ref no₂)
 
 -- ---- refused: level 1 has key 50 in relation 2, and no row with key 8 in relation 1
 

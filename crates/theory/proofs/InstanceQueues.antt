@@ -10,10 +10,10 @@ use Rattle.model.specs.declared.Description.{Description}
 use Rattle.model.specs.declared.Answer.the-variants as Answers
 use Rattle.model.specs.Description.{over}
 use Rattle.model.specs.Tables.{Cell, cell}
-use Rattle.model.specs.Buffers.{Buffers}
+use Rattle.model.specs.Ledger.{Ledger}
 use Rattle.model.specs.Run.{Request, subject, Reply}
 use Rattle.model.proofs.Computed.{computed}
-use Rattle.model.proofs.Build.{insertAt, deleteAt, updateAt, uplevelAt, selectAt, key, laidOut}
+use Rattle.model.proofs.Build.{insertAt, deleteAt, updateAt, uplevelAt, selectAt, key, laid}
 use Rattle.model.proofs.Worked.{one, no₁, two, no₂, x₀, x₁, x₂, row₁}
 use Rattle.theory.specs.Queues.{Merge, from-left, from-right, finished, Each, more, no-more, final, firsts, seconds, SameRun}
 use Rattle.theory.specs.Theorems.{Yes, leaves, hears, Apart}
@@ -35,11 +35,11 @@ forked =
     }
 
 -- relation 1 at levels 0 to 5, then relation 2 at level 2 and at level 5
-abbrev forking : List Cell → List Cell → List Cell → List Cell → List Cell → List Cell → List Cell → List Cell → Buffers
-forking a b c e f g x y = laidOut (a ∷ b ∷ c ∷ e ∷ f ∷ g ∷ no₂ ∷ no₂ ∷ x ∷ no₂ ∷ no₂ ∷ y ∷ [])
+abbrev forking : List Cell → List Cell → List Cell → List Cell → List Cell → List Cell → List Cell → List Cell → Ledger
+forking a b c e f g x y = laid forked (a ∷ b ∷ c ∷ e ∷ f ∷ g ∷ no₂ ∷ no₂ ∷ x ∷ no₂ ∷ no₂ ∷ y ∷ [])
 
 -- level 5 has 21 from level 1, 31 from level 2, and level 2's row of relation 2
-abbrev begun : Buffers
+abbrev begun : Ledger
 begun = forking x₀ x₁ x₂ no₁ no₁ row₁ (two (cell 50 2) (cell 7 2)) (two (cell 50 2) (cell 7 2))
 
 pub begun-legal : Yes forked begun

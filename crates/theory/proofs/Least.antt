@@ -17,7 +17,7 @@ use Rattle.model.specs.declared.Fault.{Fault}
 use Rattle.model.specs.declared.Answer.{Answer}
 use Rattle.model.specs.declared.Answer.the-variants as Answers
 use Rattle.model.specs.Numbers.{faultNumber, answerNumber}
-use Rattle.model.specs.Buffers.{Buffers, stateOf}
+use Rattle.model.specs.Ledger.{Ledger, cellsOf, pagesOf}
 use Rattle.model.specs.Insert.{insertTests}
 use Rattle.model.specs.Delete.{deleteTests}
 use Rattle.model.specs.Update.{updateTests}
@@ -96,10 +96,10 @@ rises low (u ∷ ts) h (suc m) (suc n) x y fault other l e f = rises (number u) 
 
 -- ---- of one call
 
-module _ (d : Description) (b : Buffers) (q : Request) where
+module _ (d : Description) (b : Ledger) (q : Request) where
   numbers : map number (allTests d b q) ≡ numbersFor (q .statement .what)
   unfolding tests further insertTests deleteTests updateTests uplevelTests selectTests numbersFor answerNumber faultNumber
-  numbers = go (q .statement .what) (seen d (subject q) (stateOf d b))
+  numbers = go (q .statement .what) (seen d (subject q) (cellsOf (pagesOf d b)))
     where
       go : (w : What) (S : State) → 1 ∷ 2 ∷ 3 ∷ 4 ∷ map number (further d q w S) ≡ numbersFor w
       go Whats.Insert S = refl

@@ -9,12 +9,12 @@ use mathlib.Core.Path.{_≡_, refl, sym, ap, _∙_, subst}
 use native.Mathlib.Omega.{arith}
 use Rattle.bounded.specs.Tests.{Reflects}
 use Rattle.bounded.proofs.Reflection.{if-cases, is-true, is-false, of-true, decide, bool-r, and-r, eqb-r}
-use Rattle.model.specs.Buffers.{Buffers, stateOf}
+use Rattle.model.specs.Ledger.{Ledger, Pages, cellsOf, pagesOf}
 use Rattle.model.specs.Conditions.{met}
 use Rattle.model.specs.Delete.{deleted}
 use Rattle.model.specs.Description.{rowCount, foreignOf, refersOf}
 use Rattle.model.specs.Effect.{keep, only, Effect, changed, reach, carry, applied}
-use Rattle.model.specs.Legal.{LegalState}
+use Rattle.model.specs.Legal.{LegalPages}
 use Rattle.model.specs.Run.{Request, subject, relation, further, tests, effectAs, left, after}
 use Rattle.model.specs.Tables.{Cell, cell, nocell, Row, State, Tables, rowsOf, seen, at, lends}
 use Rattle.model.specs.declared.Description.{Description}
@@ -32,36 +32,36 @@ use Rattle.theory.proofs.Legality.{find, legal-tidy}
 use Rattle.theory.proofs.Seen.{seen-own}
 use Rattle.theory.proofs.Accepted.{passed, delete-unnamed}
 use Rattle.theory.proofs.State.{fault}
-use Rattle.theory.proofs.Steps.{all-passed}
-use Rattle.theory.proofs.Calls.{Judged, yes-says, done-says, step-done, leaves-state}
+use Rattle.theory.proofs.Steps.{next, after-cells, all-passed}
+use Rattle.theory.proofs.Calls.{Judged, yes-says, done-says, step-done, leaves-pages}
 
-module _ (d : Description) (L : Laws d) (b : Buffers) (q : Request) (y : Yes d b) (g : LegalState d (stateOf d b)) (passes : fault d q (stateOf d b) ≡ none)
+module _ (d : Description) (L : Laws d) (b : Ledger) (q : Request) (y : Yes d b) (g : LegalPages d (pagesOf d b)) (passes : fault d q (pagesOf d b) ≡ none)
     (what : q .statement .what ≡ Whats.Delete) where
   abbrev c : ℕ
   c = subject q
 
   abbrev T : Tables
-  T = rowsOf (stateOf d b)
+  T = rowsOf (cellsOf (pagesOf d b))
 
   abbrev W : Tables
   W = at d T
 
   abbrev E : Effect
-  E = deleted d c (relation q) (q .conditions) (stateOf d b c .rows)
+  E = deleted d c (relation q) (q .conditions) (cellsOf (pagesOf d b) c .rows)
 
   abbrev Meets : Row → Type 0
   Meets R = met d (q .conditions) R ≡ true
 
-  effect : effectAs d q (q .statement .what) (seen d c (stateOf d b)) ≡ some (deleted d c (relation q) (q .conditions) (seen d c (stateOf d b) c .rows))
+  effect : effectAs d q (q .statement .what) (seen d c (cellsOf (pagesOf d b))) ≡ some (deleted d c (relation q) (q .conditions) (seen d c (cellsOf (pagesOf d b)) c .rows))
   unfolding effectAs
   effect = rw (what, effectAs)
 
   level : c < d .levels
-  level = all-passed d L q (stateOf d b) (legal-tidy d L T g) passes .fits _ effect .apt .level
+  level = all-passed d L q (pagesOf d b) (legal-tidy d L T g) passes .fits _ effect .apt .level
 
   unnamed : (s v k : ℕ) → refersOf d s ≡ relation q → k ≡ foreignOf d s → W s c v k .value ≢ 0 → Meets (W (relation q) c (W s c v k .value)) → ⊥
   unfolding fault tests further
-  unnamed = delete-unnamed d L (stateOf d b) (legal-tidy d L T g) c (relation q) (q .conditions)
+  unnamed = delete-unnamed d L (cellsOf (pagesOf d b)) (legal-tidy d L T g) c (relation q) (q .conditions)
       level (rw (what, further) at (passed (_, Faults.Malformed) _ (passed (_, Faults.Illegal) _ passes .1) .1))
 
   -- ---- what DELETE says of the rows above
@@ -263,11 +263,15 @@ module _ (d : Description) (L : Laws d) (b : Buffers) (q : Request) (y : Yes d b
 
   -- ---- the tables after it
 
+  next-is : (r l i : ℕ) → rowsOf (next d q (cellsOf (pagesOf d b)) (cellsOf (pagesOf d b))) r l i ≡ carry d W c (E .own) (E .above) T r l i
+  unfolding left applied
+  next-is r l i = rw (effect, left, seen-own d (cellsOf (pagesOf d b)) c (L .reflexive c level))
+
   after-is : (r l i : ℕ) → tables d (leaves d q b) r l i ≡ carry d W c (E .own) (E .above) T r l i
-  unfolding after left applied
   after-is r l i =
-      ap (λ (N : State). rowsOf N r l i) (leaves-state d b q y ∙ step-done d q (stateOf d b) passes)
-      ∙ rw (effect, left, seen-own d (stateOf d b) c (L .reflexive c level))
+      ap (λ (N : Pages). rowsOf (cellsOf N) r l i) (leaves-pages d b q y ∙ step-done d q (pagesOf d b) passes)
+      ∙ ap (λ (N : State). rowsOf N r l i) (after-cells d q (pagesOf d b))
+      ∙ next-is r l i
 
   after-above : (r l i k : ℕ) → IsAbove d l c → tables d (leaves d q b) r l i k ≡ reach d W c (E .above) r l (T r l i) k
   after-above r l i k a = ap (λ (R : Row). R k) (after-is r l i ∙ carry-above d W c (E .own) (E .above) T r l i (a .other) (a .dominates))
@@ -302,6 +306,6 @@ module _ (d : Description) (L : Laws d) (b : Buffers) (q : Request) (y : Yes d b
 
 pub delete-as-said : DeleteAsSaid
 delete-as-said d b q count what h =
-    let y : Yes d b × (fault d q (stateOf d b) ≡ none) = done-says d b q h in
+    let y : Yes d b × (fault d q (pagesOf d b) ≡ none) = done-says d b q h in
     let j : Judged d b = yes-says d b (y .0) in
     said d (sound-laws d (j .sound)) b q (y .0) (j .legal) (y .1) what

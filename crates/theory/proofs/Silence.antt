@@ -7,12 +7,12 @@ use mathlib.Core.Path.{_≡_, refl, sym, ap, _∙_, subst}
 use native.Mathlib.Omega.{arith}
 use Rattle.bounded.proofs.Cases.{and-left}
 use Rattle.bounded.proofs.Reflection.{if-cases, is-true, decide, and-r, eqb-r, ltb-r}
-use Rattle.model.specs.Buffers.{stateOf}
+use Rattle.model.specs.Ledger.{Pages, cellsOf, pagesOf}
 use Rattle.model.specs.Description.{rowCount}
 use Rattle.model.specs.Effect.{applied}
-use Rattle.model.specs.Legal.{LegalState}
+use Rattle.model.specs.Legal.{LegalPages}
 use Rattle.model.specs.Listed.{listed}
-use Rattle.model.specs.Run.{Request, subject, relation, formedAs, effectAs, left, after}
+use Rattle.model.specs.Run.{Request, subject, relation, formedAs, effectAs, left}
 use Rattle.model.specs.Tables.{Cell, cell, Row, norow, State, Tables, rowsOf, seen, place, seek, at, lends}
 use Rattle.model.specs.Uplevel.{entityOf, raised, placed, uplevelled}
 use Rattle.model.specs.declared.Description.{Description}
@@ -27,8 +27,8 @@ use Rattle.theory.proofs.Legality.{find, legal-tidy}
 use Rattle.theory.proofs.Seen.{seen-as}
 use Rattle.theory.proofs.Accepted.{uplevel-key}
 use Rattle.theory.proofs.State.{fault, step}
-use Rattle.theory.proofs.Steps.{all-passed, step-legal}
-use Rattle.theory.proofs.Calls.{Judged, yes-says, done-says, step-done, leaves-state}
+use Rattle.theory.proofs.Steps.{next, after-cells, all-passed, step-legal}
+use Rattle.theory.proofs.Calls.{Judged, yes-says, done-says, step-done, leaves-pages}
 use Rattle.model.specs.declared.What.the-variants as Whats
 
 seek-none : (n v : ℕ) → seek n (λ i. norow) v ≡ norow
@@ -44,10 +44,13 @@ lends-null R e k a n = if-cases (λ (y : Cell). y ≡ cell 0 a) (and-r (same-r (
     go h (inl z) = cell-path z (h .1)
     go h (inr m) = absurd (n (R k .value) m (h .0) (cell-path refl (h .1)))
 
-module _ (d : Description) (L : Laws d) (q : Request) (S : State) (g : LegalState d S) (entity : Cell) (class k a : ℕ) (passes : fault d q S ≡ none)
+module _ (d : Description) (L : Laws d) (q : Request) (P : Pages) (g : LegalPages d P) (entity : Cell) (class k a : ℕ) (passes : fault d q P ≡ none)
     (what : q .statement .what ≡ Whats.Uplevel (entity .value) class)
-    (is : entityOf d (subject q) (relation q) (entity .value) class (rowsOf (seen d (subject q) S)) ≡ entity) (column : listed (q .list) k ≡ some a)
-    (silent : (v : ℕ) → v ≢ 0 → at d (rowsOf S) (relation q) a (entity .value) 1 ≡ entity → at d (rowsOf S) (relation q) a (entity .value) k ≡ cell v a → ⊥) where
+    (is : entityOf d (subject q) (relation q) (entity .value) class (rowsOf (seen d (subject q) (cellsOf P))) ≡ entity) (column : listed (q .list) k ≡ some a)
+    (silent : (v : ℕ) → v ≢ 0 → at d (rowsOf (cellsOf P)) (relation q) a (entity .value) 1 ≡ entity → at d (rowsOf (cellsOf P)) (relation q) a (entity .value) k ≡ cell v a → ⊥) where
+  abbrev S : State
+  S = cellsOf P
+
   abbrev c : ℕ
   c = subject q
 
@@ -59,7 +62,7 @@ module _ (d : Description) (L : Laws d) (q : Request) (S : State) (g : LegalStat
 
   key : (entity .value ≢ 0) × (listed (q .list) 1 ≡ none)
   unfolding formedAs
-  key = uplevel-key d r (entity .value) class (q .list) (and-left _ _ (rw (what, formedAs) at (all-passed d L q S (legal-tidy d L (rowsOf S) g) passes .well)))
+  key = uplevel-key d r (entity .value) class (q .list) (and-left _ _ (rw (what, formedAs) at (all-passed d L q P (legal-tidy d L (rowsOf S) g) passes .well)))
 
   -- what the entity's row at a lends is null
   lent : lends (W r a (entity .value)) entity k a ≡ cell 0 a
@@ -87,24 +90,27 @@ module _ (d : Description) (L : Laws d) (q : Request) (S : State) (g : LegalStat
   abbrev i : ℕ
   i = placeOf d r entity (seen d c S c .rows)
 
-  row : rowsOf (step d q S) r c i ≡ new
-  unfolding after left applied uplevelled placed
-  row = rw (step-done d q S passes, effect-is, left) (carry-own d (at d (rowsOf S)) c _ _ (rowsOf S) r i ∙ rw (is-true (eqb-r r r) refl, is-true (eqb-r i i) refl))
+  own-row : rowsOf (next d q S S) r c i ≡ new
+  unfolding left applied uplevelled placed
+  own-row = rw (effect-is, left) (carry-own d (at d (rowsOf S)) c _ _ (rowsOf S) r i ∙ rw (is-true (eqb-r r r) refl, is-true (eqb-r i i) refl))
 
-  found : at d (rowsOf (step d q S)) r c (entity .value) ≡ new
+  row : rowsOf (cellsOf (step d q P)) r c i ≡ new
+  row = ap (λ (K : Pages). rowsOf (cellsOf K) r c i) (step-done d q P passes) ∙ ap (λ (T : State). rowsOf T r c i) (after-cells d q P) ∙ own-row
+
+  found : at d (rowsOf (cellsOf (step d q P))) r c (entity .value) ≡ new
   unfolding raised
-  found = find d L (rowsOf (step d q S)) (step-legal d L q S g) r c i (entity .value) (rw row) (key .0) ∙ row
+  found = find d L (rowsOf (cellsOf (step d q P))) (step-legal d L q P g) r c i (entity .value) (rw row) (key .0) ∙ row
 
-  pub silence : (at d (rowsOf (step d q S)) r c (entity .value) 1 ≡ entity) × (at d (rowsOf (step d q S)) r c (entity .value) k ≡ cell 0 a)
+  pub silence : (at d (rowsOf (cellsOf (step d q P))) r c (entity .value) 1 ≡ entity) × (at d (rowsOf (cellsOf (step d q P))) r c (entity .value) k ≡ cell 0 a)
   unfolding raised
   silence = (ap (λ (R : Row). R 1) found, ap (λ (R : Row). R k) found ∙ new-null)
 
--- ---- on buffers
+-- ---- on a ledger
 
 pub silence-shows : SilenceShows
 silence-shows d b q entity k a count h u silent =
-    let y : Yes d b × (fault d q (stateOf d b) ≡ none) = done-says d b q h in
+    let y : Yes d b × (fault d q (pagesOf d b) ≡ none) = done-says d b q h in
     let j : Judged d b = yes-says d b (y .0) in
-    subst (λ (S : State). (at d (rowsOf S) (relation q) (subject q) (entity .value) 1 ≡ entity) × (at d (rowsOf S) (relation q) (subject q) (entity .value) k ≡ cell 0 a))
-    (sym (leaves-state d b q (y .0)))
-    (silence d (sound-laws d (j .sound)) q (stateOf d b) (j .legal) entity (u .class) k a (y .1) (u .what) (u .is) (u .column) silent)
+    subst (λ (P : Pages). (at d (rowsOf (cellsOf P)) (relation q) (subject q) (entity .value) 1 ≡ entity) × (at d (rowsOf (cellsOf P)) (relation q) (subject q) (entity .value) k ≡ cell 0 a))
+    (sym (leaves-pages d b q (y .0)))
+    (silence d (sound-laws d (j .sound)) q (pagesOf d b) (j .legal) entity (u .class) k a (y .1) (u .what) (u .is) (u .column) silent)

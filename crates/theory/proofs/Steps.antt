@@ -1,6 +1,6 @@
--- The theorems about one call on legal tables: they stay legal; a level that does not dominate the subject's keeps what it holds; what is
+-- The theorems about one call on legal pages: they stay legal; a level that does not dominate the subject's keeps what it holds; what is
 -- heard, and what is done to the levels that a level sees, depend on what is seen; requests from levels that do not dominate each other
--- commute. So any merging of two queues at such levels is heard alike and leaves the same tables.
+-- commute. So any merging of two queues at such levels is heard alike and leaves the same pages.
 -- Assumes nothing.
 use Prim.Native.Nat.{ℕ, _<_}
 use mathlib.Core.Bool.{true, false}
@@ -14,12 +14,14 @@ use Rattle.bounded.proofs.Cases.{and-left, and-right}
 use Rattle.bounded.proofs.Reflection.{is-false, of-true, decide, bool-r, ltb-r}
 use Rattle.model.specs.Description.{isLevel, over, isRelation, rowCount}
 use Rattle.model.specs.Effect.{Rows, Effect, reach, applied}
-use Rattle.model.specs.Judge.{legal}
-use Rattle.model.specs.Legal.{LegalState}
+use Rattle.model.specs.Ledger.{Page, Pages, cellsOf}
+use Rattle.model.specs.Judge.{legalPages}
+use Rattle.model.specs.Legal.{LegalPages}
 use Rattle.model.specs.Run.{Request, subject, relation, formedAs, formed, further, firstFault, tests, effectAs, left, after}
 use Rattle.model.specs.Tables.{Row, Level, State, Tables, rowsOf, seen, seek, at}
 use Rattle.model.specs.declared.Description.{Description}
 use Rattle.model.specs.declared.Fault.{Fault}
+use Rattle.model.proofs.Pages.{page-path}
 use Rattle.theory.specs.Laws.{Laws}
 use Rattle.theory.proofs.Seek.{at-seek}
 use Rattle.theory.proofs.Reach.{carry-own, carry-above, carry-aside, Side, at-c, over-c, off-c, side}
@@ -37,9 +39,17 @@ use Rattle.theory.proofs.Runs as Runs
 abbrev stored : Tables → State
 stored T l = record { rows = λ r i. T r l i }
 
--- the state T after what a request does that is worked out from S
-abbrev next : Description → Request → State → State → State
+-- the cells T after what a request does that is worked out from S, and the pages P after what is worked out from U
+abbrev pub next : Description → Request → State → State → State
 next D q S T = left D (subject q) (effectAs D q (q .statement .what) (seen D (subject q) S)) T
+
+abbrev turned : Description → Request → Pages → Pages → Pages
+turned D q U P l = record { cells = next D q (cellsOf U) (cellsOf P) l }
+
+-- the cells that are left
+pub after-cells : (D : Description) (q : Request) (P : Pages) → cellsOf (after D q P) ≡ next D q (cellsOf P) (cellsOf P)
+unfolding after
+after-cells D q P = refl
 
 module _ (D : Description) (L : Laws D) where
   -- what holds of a request that is not refused
@@ -47,12 +57,12 @@ module _ (D : Description) (L : Laws D) where
     pub well : formedAs D (relation q) (q .statement .what) (q .list) (q .conditions) ≡ true
     pub fits : (E : Effect) → effectAs D q (q .statement .what) (seen D (subject q) S) ≡ some E → Fits D (rowsOf S) (subject q) E
 
-  pub all-passed : (q : Request) (S : State) → Tidy D (rowsOf S) → fault D q S ≡ none → Passed q S
+  pub all-passed : (q : Request) (P : Pages) → Tidy D (rowsOf (cellsOf P)) → fault D q P ≡ none → Passed q (cellsOf P)
   unfolding fault tests formed isLevel
-  all-passed q S t e = record { well = well; fits = λ E. accepted D L S t q (q .statement .what) E level well (p .1) }
+  all-passed q P t e = record { well = well; fits = λ E. accepted D L (cellsOf P) t q (q .statement .what) E level well (p .1) }
     where
-      p : (formed D q ≡ true) × (firstFault (further D q (q .statement .what) (seen D (subject q) S)) ≡ none)
-      p = passed (formed D q, Faults.Malformed) (further D q (q .statement .what) (seen D (subject q) S)) (passed (legal D S, Faults.Illegal) (tests D q S) e .1)
+      p : (formed D q ≡ true) × (firstFault (further D q (q .statement .what) (seen D (subject q) (cellsOf P))) ≡ none)
+      p = passed (formed D q, Faults.Malformed) (further D q (q .statement .what) (seen D (subject q) (cellsOf P))) (passed (legalPages D P, Faults.Illegal) (tests D q P) e .1)
 
       level : subject q < D .levels
       level = of-true (ltb-r (subject q) (D .levels)) (and-left (ltb (subject q) (D .levels)) _ (p .0))
@@ -73,27 +83,27 @@ module _ (D : Description) (L : Laws D) where
       go (some E) i = went E (λ T. rw (i, left)) (p .fits E i)
       go none i = stood (λ T. rw (i, left))
 
-  -- a request is done, or leaves the state
-  data Step (q : Request) (S : State) : Type 0 where
-    act : acts D q S ≡ true → step D q S ≡ next D q S S → Went q S → Step q S
-    rest : acts D q S ≡ false → step D q S ≡ S → Step q S
+  -- a request is done, or leaves the pages
+  data Step (q : Request) (P : Pages) : Type 0 where
+    act : acts D q P ≡ true → step D q P ≡ turned D q P P → Went q (cellsOf P) → Step q P
+    rest : acts D q P ≡ false → step D q P ≡ P → Step q P
 
-  stepped : (q : Request) (S : State) → Tidy D (rowsOf S) → Step q S
+  stepped : (q : Request) (P : Pages) → Tidy D (rowsOf (cellsOf P)) → Step q P
   unfolding step acts after
-  stepped q S t = go (fault D q S) refl
+  stepped q P t = go (fault D q P) refl
     where
-      go : (o : Option Fault) → fault D q S ≡ o → Step q S
-      go none e = act (rw (e, acts)) (rw (e, acts)) (go-on q S (all-passed q S t e))
+      go : (o : Option Fault) → fault D q P ≡ o → Step q P
+      go none e = act (rw (e, acts)) (rw (e, acts)) (go-on q (cellsOf P) (all-passed q P t e))
       go (some f) e = rest (rw (e, acts)) (rw (e, acts))
 
-  step-tidy : (q : Request) (S : State) → Tidy D (rowsOf S) → Tidy D (rowsOf (step D q S))
-  step-tidy q S t = go (stepped q S t)
+  step-tidy : (q : Request) (P : Pages) → Tidy D (rowsOf (cellsOf P)) → Tidy D (rowsOf (cellsOf (step D q P)))
+  step-tidy q P t = go (stepped q P t)
     where
-      by : Went q S → Tidy D (rowsOf (next D q S S))
-      by (went E e f) = rw (e S) (stays-tidy D L (rowsOf S) (subject q) E t f)
-      by (stood e) = rw (e S) t
+      by : Went q (cellsOf P) → Tidy D (rowsOf (next D q (cellsOf P) (cellsOf P)))
+      by (went E e f) = rw (e (cellsOf P)) (stays-tidy D L (rowsOf (cellsOf P)) (subject q) E t f)
+      by (stood e) = rw (e (cellsOf P)) t
 
-      go : Step q S → Tidy D (rowsOf (step D q S))
+      go : Step q P → Tidy D (rowsOf (cellsOf (step D q P)))
       go (act _ e w) = rw e (by w)
       go (rest _ e) = rw e t
 
@@ -103,12 +113,12 @@ module _ (D : Description) (L : Laws D) where
   next-unseen q S (went E e f) c n T l h = ap (λ (K : State). K l) (e T) ∙ ap (λ (B : Rows). record { rows = B }) (fun-ext (λ r. fun-ext (λ i. unseen-row D L (rowsOf T) (subject q) c E n r l i h)))
   next-unseen q S (stood e) c n T l h = ap (λ (K : State). K l) (e T)
 
-  unseen : (c : ℕ) (q : Request) (S : State) → (over D c (subject q) ≡ true → ⊥) → Tidy D (rowsOf S) → Low (over D) c (step D q S) S
-  unseen c q S n t = go (stepped q S t)
+  unseen : (c : ℕ) (q : Request) (P : Pages) → (over D c (subject q) ≡ true → ⊥) → Tidy D (rowsOf (cellsOf P)) → Low (over D) c (step D q P) P
+  unseen c q P n t = go (stepped q P t)
     where
-      go : Step q S → Low (over D) c (step D q S) S
-      go (act _ e w) l h = ap (λ (K : State). K l) e ∙ next-unseen q S w c n S l h
-      go (rest _ e) l h = ap (λ (K : State). K l) e
+      go : Step q P → Low (over D) c (step D q P) P
+      go (act _ e w) l h = ap (λ (K : Pages). K l) e ∙ page-path (next-unseen q (cellsOf P) w c n (cellsOf P) l h)
+      go (rest _ e) l h = ap (λ (K : Pages). K l) e
 
   low-seen : (c : ℕ) (S U : State) → Low (over D) c S U → seen D c S ≡ seen D c U
   unfolding seen
@@ -118,22 +128,34 @@ module _ (D : Description) (L : Laws D) where
       go l (inl x) = rw (x, h l x)
       go l (inr n) = rw (is-false (bool-r (over D c l)) n)
 
-  module _ (q : Request) (S U : State) (t : Tidy D (rowsOf S)) (u : Tidy D (rowsOf U)) (h : Low (over D) (subject q) S U) where
-    same-fault : fault D q S ≡ fault D q U
-    unfolding fault tests
-    same-fault = rw (legal-judged D L S t, legal-judged D L U u, low-seen (subject q) S U h)
+  low-cells : (c : ℕ) (P U : Pages) → Low (over D) c P U → Low (over D) c (cellsOf P) (cellsOf U)
+  low-cells c P U h l x = ap (λ (K : Page). K .cells) (h l x)
 
-    answers : reply D q S ≡ reply D q U
+  module _ (q : Request) (P U : Pages) (t : Tidy D (rowsOf (cellsOf P))) (u : Tidy D (rowsOf (cellsOf U))) (h : Low (over D) (subject q) P U) where
+    same-seen : seen D (subject q) (cellsOf P) ≡ seen D (subject q) (cellsOf U)
+    same-seen = low-seen (subject q) (cellsOf P) (cellsOf U) (low-cells (subject q) P U h)
+
+    same-fault : fault D q P ≡ fault D q U
+    unfolding fault tests legalPages
+    same-fault = rw (legal-judged D L (cellsOf P) t, legal-judged D L (cellsOf U) u, same-seen)
+
+    answers : reply D q P ≡ reply D q U
     unfolding reply
-    answers = go (fault D q S) refl
+    answers = go (fault D q P) refl
       where
-        go : (o : Option Fault) → fault D q S ≡ o → reply D q S ≡ reply D q U
-        go none e = rw (e, sym same-fault ∙ e, reply, low-seen (subject q) S U h)
+        go : (o : Option Fault) → fault D q P ≡ o → reply D q P ≡ reply D q U
+        go none e = rw (e, sym same-fault ∙ e, reply, same-seen)
         go (some f) e = rw (e, sym same-fault ∙ e, reply)
 
-    step-same : step D q S ≡ (if acts D q U then next D q U S else S)
-    unfolding step acts after
-    step-same = rw (same-fault, acts, low-seen (subject q) S U h)
+    same-after : after D q P ≡ turned D q U P
+    unfolding after
+    same-after =
+        let from : State → Pages = λ S l. record { cells = left D (subject q) (effectAs D q (q .statement .what) S) (cellsOf P) l } in
+        ap from same-seen
+
+    step-same : step D q P ≡ (if acts D q U then turned D q U P else P)
+    unfolding step acts
+    step-same = rw (same-fault, acts, same-after)
 
   -- a request does the same to what c sees of two states that c sees alike
   low-next : (c : ℕ) (q : Request) (S U : State) → Went q U → over D c (subject q) ≡ true → Low (over D) c S U → Low (over D) c (next D q U S) (next D q U U)
@@ -162,23 +184,27 @@ module _ (D : Description) (L : Laws D) where
           ∙ ap (reach D (at D (rowsOf U)) a (E .above) r l) (ap (λ (B : ℕ → Row). B i) (row r l x))
           ∙ sym (carry-above D (at D (rowsOf U)) a (E .own) (E .above) (rowsOf U) r l i n m)
 
-  steps : (c : ℕ) (q : Request) (S U : State) → Tidy D (rowsOf S) → Tidy D (rowsOf U) → over D c (subject q) ≡ true → Low (over D) c S U → Low (over D) c (step D q S) (step D q U)
-  steps c q S U t u d h l x = ap (λ (K : State). K l) (step-same q S U t u (λ l x. h l (L .transitive c (subject q) l d x))) ∙ go (stepped q U u)
+  steps : (c : ℕ) (q : Request) (P U : Pages) → Tidy D (rowsOf (cellsOf P)) → Tidy D (rowsOf (cellsOf U)) → over D c (subject q) ≡ true → Low (over D) c P U
+      → Low (over D) c (step D q P) (step D q U)
+  steps c q P U t u d h l x = ap (λ (K : Pages). K l) (step-same q P U t u (λ l x. h l (L .transitive c (subject q) l d x))) ∙ go (stepped q U u)
     where
-      go : Step q U → (if acts D q U then next D q U S else S) l ≡ step D q U l
-      go (act a e w) = rw a (low-next c q S U w d h l x ∙ sym (ap (λ (K : State). K l) e))
-      go (rest a e) = rw a (h l x ∙ sym (ap (λ (K : State). K l) e))
+      go : Step q U → (if acts D q U then turned D q U P else P) l ≡ step D q U l
+      go (act a e w) = rw a (page-path (low-next c q (cellsOf P) (cellsOf U) w d (low-cells c P U h) l x) ∙ sym (ap (λ (K : Pages). K l) e))
+      go (rest a e) = rw a (h l x ∙ sym (ap (λ (K : Pages). K l) e))
 
   -- ---- two requests
 
-  commutes : (q p : Request) (S : State) → Tidy D (rowsOf S) → Apart (over D) subject q p → step D p (step D q S) ≡ step D q (step D p S)
-  commutes q p S t a = go (stepped q S t) (stepped p S t)
+  commutes : (q p : Request) (P : Pages) → Tidy D (rowsOf (cellsOf P)) → Apart (over D) subject q p → step D p (step D q P) ≡ step D q (step D p P)
+  commutes q p P t a = go (stepped q P t) (stepped p P t)
     where
-      p-second : step D p (step D q S) ≡ (if acts D p S then next D p S (step D q S) else step D q S)
-      p-second = step-same p (step D q S) S (step-tidy q S t) t (unseen (subject p) q S (a .not-under) t)
+      S : State
+      S = cellsOf P
 
-      q-second : step D q (step D p S) ≡ (if acts D q S then next D q S (step D p S) else step D p S)
-      q-second = step-same q (step D p S) S (step-tidy p S t) t (unseen (subject q) p S (a .not-over) t)
+      p-second : step D p (step D q P) ≡ (if acts D p P then turned D p P (step D q P) else step D q P)
+      p-second = step-same p (step D q P) P (step-tidy q P t) t (unseen (subject p) q P (a .not-under) t)
+
+      q-second : step D q (step D p P) ≡ (if acts D q P then turned D q P (step D p P) else step D p P)
+      q-second = step-same q (step D p P) P (step-tidy p P t) t (unseen (subject q) p P (a .not-over) t)
 
       both : Went q S → Went p S → next D p S (next D q S S) ≡ next D q S (next D p S S)
       both (stood e) _ = ap (next D p S) (e S) ∙ sym (e (next D p S S))
@@ -188,25 +214,31 @@ module _ (D : Description) (L : Laws D) where
           ∙ ap stored (effects-commute D L (rowsOf S) t (subject q) (subject p) E E′ f f′ (a .not-over) (a .not-under))
           ∙ sym (ap (next D q S) (e′ S) ∙ e (stored (applied D (subject p) E′ (rowsOf S))))
 
-      go : Step q S → Step p S → step D p (step D q S) ≡ step D q (step D p S)
+      both-turned : Went q S → Went p S → turned D p P (turned D q P P) ≡ turned D q P (turned D p P P)
+      both-turned w w′ = fun-ext (λ l. page-path (ap (λ (T : State). T l) (both w w′)))
+
+      go : Step q P → Step p P → step D p (step D q P) ≡ step D q (step D p P)
       go (rest x e) _ = ap (step D p) e ∙ sym (q-second ∙ rw x)
       go (act _ _ _) (rest x e) = p-second ∙ rw x (sym (ap (step D q) e))
-      go (act x e w) (act x′ e′ w′) = p-second ∙ rw x′ (ap (next D p S) e ∙ both w w′ ∙ sym (q-second ∙ rw x (ap (next D q S) e′)))
+      go (act x e w) (act x′ e′ w′) = p-second ∙ rw x′ (ap (turned D p P) e ∙ both-turned w w′ ∙ sym (q-second ∙ rw x (ap (turned D q P) e′)))
 
   -- ---- the theorems
 
-  pub step-legal : (q : Request) (S : State) → LegalState D S → LegalState D (step D q S)
-  step-legal q S g = tidy-legal D L (rowsOf (step D q S)) (step-tidy q S (legal-tidy D L (rowsOf S) g))
+  tidy : (P : Pages) → LegalPages D P → Tidy D (rowsOf (cellsOf P))
+  tidy P g = legal-tidy D L (rowsOf (cellsOf P)) g
 
-  pub step-laws : StepLaws (over D) subject (step D) (reply D) (LegalState D)
+  pub step-legal : (q : Request) (P : Pages) → LegalPages D P → LegalPages D (step D q P)
+  step-legal q P g = tidy-legal D L (rowsOf (cellsOf (step D q P))) (step-tidy q P (tidy P g))
+
+  pub step-laws : StepLaws (over D) subject (step D) (reply D) (LegalPages D)
   step-laws = record {
     step-legal = step-legal;
-    unseen = λ c q S n g. unseen c q S n (legal-tidy D L (rowsOf S) g);
-    answers = λ q S U g k h. answers q S U (legal-tidy D L (rowsOf S) g) (legal-tidy D L (rowsOf U) k) h;
-    steps = λ c q S U g k d h. steps c q S U (legal-tidy D L (rowsOf S) g) (legal-tidy D L (rowsOf U) k) d h;
-    commutes = λ q p S g a. commutes q p S (legal-tidy D L (rowsOf S) g) a;
+    unseen = λ c q P n g. unseen c q P n (tidy P g);
+    answers = λ q P U g k h. answers q P U (tidy P g) (tidy U k) h;
+    steps = λ c q P U g k d h. steps c q P U (tidy P g) (tidy U k) d h;
+    commutes = λ q p P g a. commutes q p P (tidy P g) a;
   }
 
   -- two queues, no level of one dominating a level of the other, in any merging
-  pub queues : {qs ps : List Request} (m m′ : Merge qs ps) (S : State) → Each (λ q. Each (Apart (over D) subject q) ps) qs → LegalState D S → SameRun (step D) (reply D) m m′ S
-  queues m m′ S a g = Runs.queues (over D) subject (step D) (reply D) (LegalState D) step-laws m m′ S a g
+  pub queues : {qs ps : List Request} (m m′ : Merge qs ps) (P : Pages) → Each (λ q. Each (Apart (over D) subject q) ps) qs → LegalPages D P → SameRun (step D) (reply D) m m′ P
+  queues m m′ P a g = Runs.queues (over D) subject (step D) (reply D) (LegalPages D) step-laws m m′ P a g

@@ -8,13 +8,13 @@ use mathlib.Core.Path.{_≡_, refl, sym, ap, _∙_, subst}
 use native.Mathlib.Omega.{arith}
 use Rattle.bounded.proofs.Cases.{and-left}
 use Rattle.bounded.proofs.Reflection.{if-cases, bool-r, and-r, eqb-r}
-use Rattle.model.specs.Buffers.{stateOf}
+use Rattle.model.specs.Ledger.{Pages, cellsOf, pagesOf}
 use Rattle.model.specs.Conditions.{met}
 use Rattle.model.specs.Delete.{deleted}
 use Rattle.model.specs.Description.{over}
 use Rattle.model.specs.Effect.{Effect, reach, applied, lowestEmpty}
 use Rattle.model.specs.Insert.{newRow, inserted}
-use Rattle.model.specs.Legal.{LegalState}
+use Rattle.model.specs.Legal.{LegalPages}
 use Rattle.model.specs.Listed.{listed}
 use Rattle.model.specs.Run.{Request, subject, relation, formedAs, effectAs, left, after, Reply, countAs, done}
 use Rattle.model.specs.Tables.{Cell, nocell, Row, State, Tables, rowsOf, seen, at}
@@ -36,11 +36,14 @@ use Rattle.theory.proofs.Seen.{seen-own}
 use Rattle.theory.proofs.Accepted.{update-key}
 use Rattle.theory.proofs.State.{fault, step}
 use Rattle.theory.proofs.Steps.{Passed, all-passed}
-use Rattle.theory.proofs.Calls.{Judged, yes-says, reply-done, step-refused, step-done, hears-is, leaves-state}
+use Rattle.theory.proofs.Calls.{Judged, yes-says, reply-done, step-refused, step-done, hears-is, leaves-pages}
 use Rattle.model.specs.declared.What.the-variants as Whats
 use Rattle.model.specs.declared.Answer.the-variants as Answers
 
-module _ (d : Description) (q : Request) (S : State) where
+module _ (d : Description) (q : Request) (P : Pages) where
+  abbrev S : State
+  S = cellsOf P
+
   abbrev c : ℕ
   c = subject q
 
@@ -124,7 +127,7 @@ module _ (d : Description) (q : Request) (S : State) where
 
   -- ---- the rows above c
 
-  module _ (L : Laws d) (g : LegalState d S) where
+  module _ (L : Laws d) (g : LegalPages d P) where
     above-from : (E : Effect) → Fits d T c E → (r l i k : ℕ) → l ≢ c → over d l c ≡ true → From r l k (reach d (at d T) c (E .above) r l (T r l i))
     above-from E f r l i k ne o n _ = held (record { row = i; one = sym key; class = sym (x .2) })
       where
@@ -156,9 +159,9 @@ module _ (d : Description) (q : Request) (S : State) where
 
     -- ---- everywhere
 
-    pub trust : (r l i k : ℕ) → k ≢ 1 → From r l k (rowsOf (step d q S) r l i)
+    pub trust : (r l i k : ℕ) → k ≢ 1 → From r l k (rowsOf (cellsOf (step d q P)) r l i)
     unfolding after left applied
-    trust r l i k n = go (fault d q S) refl
+    trust r l i k n = go (fault d q P) refl
       where
         went : Passed d L q S → (o : Option Effect) → effectAs d q (q .statement .what) (seen d c S) ≡ o → From r l k (rowsOf (left d c o S) r l i)
         went p none _ = stood r l i k
@@ -172,31 +175,31 @@ module _ (d : Description) (q : Request) (S : State) where
             by (over-c m o) = rw (carry-above d (at d T) c (E .own) (E .above) T r l i m o) (above-from E f r l i k m o)
             by (off-c m o) = rw (carry-aside d (at d T) c (E .own) (E .above) T r l i m o) (stood r l i k)
 
-        go : (x : Option Fault) → fault d q S ≡ x → From r l k (rowsOf (step d q S) r l i)
-        go (some x) e = rw (step-refused d q S e) (stood r l i k)
-        go none e = rw (step-done d q S e) (went (all-passed d L q S (legal-tidy d L T g) e) (effectAs d q (q .statement .what) (seen d c S)) refl)
+        go : (x : Option Fault) → fault d q P ≡ x → From r l k (rowsOf (cellsOf (step d q P)) r l i)
+        go (some x) e = rw (step-refused d q P e) (stood r l i k)
+        go none e = rw (step-done d q P e) (went (all-passed d L q P (legal-tidy d L T g) e) (effectAs d q (q .statement .what) (seen d c S)) refl)
 
 pub trust-is-named : TrustIsNamed
 unfolding done countAs
-trust-is-named d b q y r l i k n v m = by (fault d q (stateOf d b)) refl
+trust-is-named d b q y r l i k n v m = by (fault d q (pagesOf d b)) refl
   where
     j : Judged d b
     j = yes-says d b y
 
     Said : Cell → ℕ → Type 0
-    Said e a = Held (rowsOf (stateOf d b)) r l e k a ⊎ Named d b q r l e k a
+    Said e a = Held (tables d b) r l e k a ⊎ Named d b q r l e k a
 
-    by : (o : Option Fault) → fault d q (stateOf d b) ≡ o → Said (tables d (leaves d q b) r l i 1) (tables d (leaves d q b) r l i k .class)
-    by (some x) e = inl (record { row = i; one = ap (λ (S : State). rowsOf S r l i 1) same; class = ap (λ (S : State). rowsOf S r l i k .class) same })
+    by : (o : Option Fault) → fault d q (pagesOf d b) ≡ o → Said (tables d (leaves d q b) r l i 1) (tables d (leaves d q b) r l i k .class)
+    by (some x) e = inl (record { row = i; one = ap (λ (P : Pages). rowsOf (cellsOf P) r l i 1) same; class = ap (λ (P : Pages). rowsOf (cellsOf P) r l i k .class) same })
       where
-        same : stateOf d b ≡ stateOf d (leaves d q b)
-        same = sym (leaves-state d b q y ∙ step-refused d q (stateOf d b) e)
-    by none e = go (subst (λ (S : State). From d q (stateOf d b) r l k (rowsOf S r l i)) (sym (leaves-state d b q y)) (trust d q (stateOf d b) (sound-laws d (j .sound)) (j .legal) r l i k n) v m)
+        same : pagesOf d b ≡ pagesOf d (leaves d q b)
+        same = sym (leaves-pages d b q y ∙ step-refused d q (pagesOf d b) e)
+    by none e = go (subst (λ (P : Pages). From d q (pagesOf d b) r l k (rowsOf (cellsOf P) r l i)) (sym (leaves-pages d b q y)) (trust d q (pagesOf d b) (sound-laws d (j .sound)) (j .legal) r l i k n) v m)
       where
-        answer : hears d q b .answer ≡ Answers.Done (countAs d q (q .statement .what) (seen d (subject q) (stateOf d b)))
-        answer = ap (λ (h : Reply). h .answer) (hears-is d b q y ∙ reply-done d q (stateOf d b) e)
+        answer : hears d q b .answer ≡ Answers.Done (countAs d q (q .statement .what) (seen d (subject q) (cellsOf (pagesOf d b))))
+        answer = ap (λ (h : Reply). h .answer) (hears-is d b q y ∙ reply-done d q (pagesOf d b) e)
 
-        go : {e : Cell} {a : ℕ} → Whence d q (stateOf d b) r l e k a → Said e a
+        go : {e : Cell} {a : ℕ} → Whence d q (pagesOf d b) r l e k a → Said e a
         go (held h) = inl h
         go (named p w class what is column) =
             inr (record { level = p; within = w; lists = record { class = class; what = what; is = is; column = column }; done = answer ∙ rw (what, countAs) })

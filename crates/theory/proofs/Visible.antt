@@ -3,18 +3,19 @@
 use Prim.Native.Nat.{ℕ}
 use mathlib.Core.Bool.{true}
 use mathlib.Core.Logic.{_≢_, _⊎_, inr}
-use mathlib.Core.Path.{_≡_, refl}
-use Rattle.model.specs.Buffers.{stateOf}
+use mathlib.Core.Path.{_≡_, refl, sym, subst}
+use Rattle.model.specs.Ledger.{cellsOf, seenPages, pagesOf}
 use Rattle.model.specs.Description.{over, refersOf, inRange}
 use Rattle.model.specs.Legal.{LegalState}
 use Rattle.model.specs.Tables.{nocell, State, Tables, rowsOf, seen}
 use Rattle.model.specs.declared.Description.{Description}
+use Rattle.model.proofs.Pages.{seen-cells}
 use Rattle.theory.specs.Laws.{Laws}
 use Rattle.theory.specs.Theorems.{VisibleLegal}
 use Rattle.theory.proofs.Described.{range-level, sound-laws}
 use Rattle.theory.proofs.Fine.{value-of, no-level}
 use Rattle.theory.proofs.Seen.{seen-as, seen-row}
-use Rattle.theory.proofs.Calls.{Judged, yes-says, buffers-yes}
+use Rattle.theory.proofs.Calls.{Judged, yes-says, ledger-yes}
 
 module _ (d : Description) (L : Laws d) (c : ℕ) (S : State) (g : LegalState d S) where
   abbrev T : Tables
@@ -58,4 +59,5 @@ module _ (d : Description) (L : Laws d) (c : ℕ) (S : State) (g : LegalState d 
 pub visible-legal : VisibleLegal
 visible-legal d b c y =
     let j : Judged d b = yes-says d b y in
-    buffers-yes d (seen d c (stateOf d b)) (j .sound) (visible d (sound-laws d (j .sound)) c (stateOf d b) (j .legal))
+    ledger-yes d (seenPages d c (pagesOf d b)) (j .sound)
+    (subst (LegalState d) (sym (seen-cells d c (pagesOf d b))) (visible d (sound-laws d (j .sound)) c (cellsOf (pagesOf d b)) (j .legal)))

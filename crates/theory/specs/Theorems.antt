@@ -1,4 +1,4 @@
--- The theorems, stated over the definition of one call on buffers. Each is proved in proofs/ under the name that stands above it.
+-- The theorems, stated over the definition of one call on a ledger. Each is proved in proofs/ under the name that stands above it.
 -- Assumes nothing: these are statements.
 use Prim.Native.Nat.{ℕ, _<_, _≤_}
 use mathlib.Core.Path.{_≡_}
@@ -18,8 +18,8 @@ use Rattle.model.specs.Numbers.{answerNumber, countOf}
 use Rattle.model.specs.Description.{over, foreignOf, refersOf, totalOf, sound}
 use Rattle.model.specs.Tables.{Cell, Tables, cell, nocell, rowsOf, seen, at}
 use Rattle.model.specs.Conditions.{met}
-use Rattle.model.specs.Buffers.{Buffers, stateOf, buffersOf}
-use Rattle.model.specs.Legal.{LegalState}
+use Rattle.model.specs.Ledger.{Ledger, cellsOf, seenPages, pagesOf, ledgerOf}
+use Rattle.model.specs.Legal.{LegalPages}
 use Rattle.model.specs.Judge.{judge}
 use Rattle.model.specs.Listed.{listed}
 use Rattle.model.specs.Uplevel.{entityOf}
@@ -30,18 +30,18 @@ use Rattle.theory.specs.Queues.{Merge, Each, SameRun}
 -- ---- words of the statements
 
 -- the judge says yes
-abbrev pub Yes : Description → Buffers → Type 0
+abbrev pub Yes : Description → Ledger → Type 0
 Yes d b = judge d b ≡ Verdicts.Legal
 
--- the tables that buffers hold
-abbrev pub tables : Description → Buffers → Tables
-tables d b = rowsOf (stateOf d b)
+-- the tables that a ledger holds
+abbrev pub tables : Description → Ledger → Tables
+tables d b = rowsOf (cellsOf (pagesOf d b))
 
--- what a call leaves in the table buffers, and what its subject hears
-abbrev pub leaves : Description → Request → Buffers → Buffers
-leaves d q b = run d b q .buffers
+-- what a call leaves in the ledger, and what its subject hears
+abbrev pub leaves : Description → Request → Ledger → Ledger
+leaves d q b = run d b q .ledger
 
-abbrev pub hears : Description → Request → Buffers → Reply
+abbrev pub hears : Description → Request → Ledger → Reply
 hears d q b = run d b q .reply
 
 -- neither request's level dominates the other's
@@ -50,41 +50,41 @@ pub record Apart (d : Description) (q p : Request) : Type 0 where
   pub not-under : over d (subject p) (subject q) ≡ true → ⊥
 
 -- what a subject at c sees is the same
-abbrev pub SeesSame : Description → ℕ → Buffers → Buffers → Type 0
-SeesSame d c b b′ = (l : ℕ) → over d c l ≡ true → stateOf d b l ≡ stateOf d b′ l
+abbrev pub SeesSame : Description → ℕ → Ledger → Ledger → Type 0
+SeesSame d c b b′ = (l : ℕ) → over d c l ≡ true → pagesOf d b l ≡ pagesOf d b′ l
 
 -- ---- judge-legal
 
--- both buffers are as long as there are cells
-pub record Lengths (d : Description) (b : Buffers) : Type 0 where
-  pub values : length (b .values) ≡ totalOf d
-  pub classes : length (b .classes) ≡ totalOf d
+-- both buffers of the tables are as long as there are cells
+pub record Lengths (d : Description) (b : Ledger) : Type 0 where
+  pub values : length (b .tables .values) ≡ totalOf d
+  pub classes : length (b .tables .classes) ≡ totalOf d
 
 -- what a verdict says: each is given exactly where it applies and none before it does
-pub data Says (d : Description) (b : Buffers) : Verdict → Type 0 where
-  is-legal : sound d ≡ true → Lengths d b → LegalState d (stateOf d b) → Says d b Verdicts.Legal
+pub data Says (d : Description) (b : Ledger) : Verdict → Type 0 where
+  is-legal : sound d ≡ true → Lengths d b → LegalPages d (pagesOf d b) → Says d b Verdicts.Legal
   not-sound : sound d ≡ false → Says d b Verdicts.Description
   not-long : sound d ≡ true → (Lengths d b → ⊥) → Says d b Verdicts.Length
-  not-legal : sound d ≡ true → Lengths d b → (LegalState d (stateOf d b) → ⊥) → Says d b Verdicts.Illegal
+  not-legal : sound d ≡ true → Lengths d b → (LegalPages d (pagesOf d b) → ⊥) → Says d b Verdicts.Illegal
 
 abbrev pub JudgeLegal : Type 0
-JudgeLegal = (d : Description) (b : Buffers) → Says d b (judge d b)
+JudgeLegal = (d : Description) (b : Ledger) → Says d b (judge d b)
 
 -- ---- stays-legal
 
 abbrev pub StaysLegal : Type 0
-StaysLegal = (d : Description) (b : Buffers) (q : Request) → Yes d b → Yes d (leaves d q b)
+StaysLegal = (d : Description) (b : Ledger) (q : Request) → Yes d b → Yes d (leaves d q b)
 
 -- ---- refusal-keeps
 
-pub record Kept (d : Description) (b : Buffers) (q : Request) : Type 0 where
+pub record Kept (d : Description) (b : Ledger) (q : Request) : Type 0 where
   pub count : countOf (hears d q b .answer) ≡ 0
-  pub tables : leaves d q b ≡ b
+  pub ledger : leaves d q b ≡ b
   pub shown : hears d q b .shown ≡ q .shown
   pub owners : hears d q b .owners ≡ q .owners
 
 abbrev pub RefusalKeeps : Type 0
-RefusalKeeps = (d : Description) (b : Buffers) (q : Request) (fault : Fault) → hears d q b .answer ≡ Answers.Refused fault → Kept d b q
+RefusalKeeps = (d : Description) (b : Ledger) (q : Request) (fault : Fault) → hears d q b .answer ≡ Answers.Refused fault → Kept d b q
 
 -- ---- least-given
 
@@ -109,7 +109,7 @@ pub record First (tests : List (Bool × Fault)) (fault : Fault) : Type 0 where
   pub fails : Test tests place false fault
   pub before : (n : ℕ) (holds : Bool) (other : Fault) → n < place → Test tests n holds other → holds ≡ true
 
-pub record LeastGiven (d : Description) (b : Buffers) (q : Request) : Type 0 where
+pub record LeastGiven (d : Description) (b : Ledger) (q : Request) : Type 0 where
   -- the call has a test for each number of its kind of statement, and for no other
   pub numbers : map (λ (t : Bool × Fault). numberOf (t .1)) (allTests d b q) ≡ numbersFor (q .statement .what)
   -- the numbers rise along the list of tests
@@ -124,42 +124,42 @@ pub record LeastGiven (d : Description) (b : Buffers) (q : Request) : Type 0 whe
       → (n : ℕ) (holds : Bool) (fault : Fault) → Test (allTests d b q) n holds fault → holds ≡ true
 
 abbrev pub LeastIsGiven : Type 0
-LeastIsGiven = (d : Description) (b : Buffers) (q : Request) → LeastGiven d b q
+LeastIsGiven = (d : Description) (b : Ledger) (q : Request) → LeastGiven d b q
 
 -- ---- apart-commute
 
--- in either order the same two answers with their output buffers, and the same table buffers
-pub record Commute (d : Description) (b : Buffers) (q p : Request) : Type 0 where
+-- in either order the same two answers with their output buffers, and the same ledger
+pub record Commute (d : Description) (b : Ledger) (q p : Request) : Type 0 where
   pub first : hears d q (leaves d p b) ≡ hears d q b
   pub second : hears d p (leaves d q b) ≡ hears d p b
-  pub tables : leaves d p (leaves d q b) ≡ leaves d q (leaves d p b)
+  pub ledger : leaves d p (leaves d q b) ≡ leaves d q (leaves d p b)
 
 abbrev pub ApartCommute : Type 0
-ApartCommute = (d : Description) (b : Buffers) (q p : Request) → Yes d b → Apart d q p → Commute d b q p
+ApartCommute = (d : Description) (b : Ledger) (q p : Request) → Yes d b → Apart d q p → Commute d b q p
 
 -- ---- queues-merge
 
 abbrev pub QueuesMerge : Type 0
 QueuesMerge =
-    (d : Description) (b : Buffers) (qs ps : List Request) → Yes d b → Each (λ q. Each (λ p. Apart d q p) ps) qs
+    (d : Description) (b : Ledger) (qs ps : List Request) → Yes d b → Each (λ q. Each (λ p. Apart d q p) ps) qs
     → (m m′ : Merge qs ps) → SameRun (leaves d) (hears d) m m′ b
 
 -- ---- silence-shows
 
 -- an UPLEVEL at c of the entity, which lists column k FROM a
-pub record Lists (d : Description) (b : Buffers) (q : Request) (entity : Cell) (k a : ℕ) : Type 0 where
+pub record Lists (d : Description) (b : Ledger) (q : Request) (entity : Cell) (k a : ℕ) : Type 0 where
   pub class : ℕ
   pub what : q .statement .what ≡ Whats.Uplevel (entity .value) class
-  pub is : entityOf d (subject q) (relation q) (entity .value) class (rowsOf (seen d (subject q) (stateOf d b))) ≡ entity
+  pub is : entityOf d (subject q) (relation q) (entity .value) class (rowsOf (seen d (subject q) (cellsOf (pagesOf d b)))) ≡ entity
   pub column : listed (q .list) k ≡ some a
 
 -- the entity's row at level a is absent, or holds nothing of a's own in column k
-abbrev pub Silent : Description → Buffers → ℕ → Cell → ℕ → ℕ → Type 0
+abbrev pub Silent : Description → Ledger → ℕ → Cell → ℕ → ℕ → Type 0
 Silent d b r entity k a = (v : ℕ) → v ≢ 0 → at d (tables d b) r a (entity .value) 1 ≡ entity → at d (tables d b) r a (entity .value) k ≡ cell v a → ⊥
 
 abbrev pub SilenceShows : Type 0
 SilenceShows =
-    (d : Description) (b : Buffers) (q : Request) (entity : Cell) (k a count : ℕ) → hears d q b .answer ≡ Answers.Done count → Lists d b q entity k a
+    (d : Description) (b : Ledger) (q : Request) (entity : Cell) (k a count : ℕ) → hears d q b .answer ≡ Answers.Done count → Lists d b q entity k a
     → Silent d b (relation q) entity k a
     → (at d (tables d (leaves d q b)) (relation q) (subject q) (entity .value) 1 ≡ entity)
     × (at d (tables d (leaves d q b)) (relation q) (subject q) (entity .value) k ≡ cell 0 a)
@@ -172,7 +172,7 @@ pub record IsAbove (d : Description) (l c : ℕ) : Type 0 where
   pub other : l ≢ c
 
 -- what 01 says of a DELETE, on the tables before it: row i of relation r at level l, and its cell in column k
-module _ (d : Description) (b : Buffers) (q : Request) where
+module _ (d : Description) (b : Ledger) (q : Request) where
   -- "among rows at c that meet the conditions"
   pub record Deleted (r l i : ℕ) : Type 0 where
     pub within : r ≡ relation q
@@ -204,7 +204,7 @@ module _ (d : Description) (b : Buffers) (q : Request) where
     pub key : IsAbove d (subject q) (tables d b r l i 1 .class)
     pub class : tables d b r l i k .class ≡ subject q
 
-pub record DeleteSaid (d : Description) (b : Buffers) (q : Request) : Type 0 where
+pub record DeleteSaid (d : Description) (b : Ledger) (q : Request) : Type 0 where
   -- "each is emptied."
   pub deleted : (r l i k : ℕ) → Deleted d b q r l i → tables d (leaves d q b) r l i k ≡ nocell
   -- "every row of that entity above c is emptied;"
@@ -219,7 +219,7 @@ pub record DeleteSaid (d : Description) (b : Buffers) (q : Request) : Type 0 whe
 
 abbrev pub DeleteAsSaid : Type 0
 DeleteAsSaid =
-    (d : Description) (b : Buffers) (q : Request) (count : ℕ) → q .statement .what ≡ Whats.Delete → hears d q b .answer ≡ Answers.Done count
+    (d : Description) (b : Ledger) (q : Request) (count : ℕ) → q .statement .what ≡ Whats.Delete → hears d q b .answer ≡ Answers.Done count
     → DeleteSaid d b q
 
 -- ---- trust-is-named
@@ -231,7 +231,7 @@ pub record Held (T : Tables) (r l : ℕ) (entity : Cell) (k a : ℕ) : Type 0 wh
   pub class : T r l row k .class ≡ a
 
 -- the request is an UPLEVEL at l, in relation r, of the entity, which lists column k FROM a; and it was done
-pub record Named (d : Description) (b : Buffers) (q : Request) (r l : ℕ) (entity : Cell) (k a : ℕ) : Type 0 where
+pub record Named (d : Description) (b : Ledger) (q : Request) (r l : ℕ) (entity : Cell) (k a : ℕ) : Type 0 where
   pub level : subject q ≡ l
   pub within : relation q ≡ r
   pub lists : Lists d b q entity k a
@@ -239,7 +239,7 @@ pub record Named (d : Description) (b : Buffers) (q : Request) (r l : ℕ) (enti
 
 abbrev pub TrustIsNamed : Type 0
 TrustIsNamed =
-    (d : Description) (b : Buffers) (q : Request) → Yes d b → (r l i k : ℕ) → k ≢ 1
+    (d : Description) (b : Ledger) (q : Request) → Yes d b → (r l i k : ℕ) → k ≢ 1
     → tables d (leaves d q b) r l i k .value ≢ 0 → tables d (leaves d q b) r l i k .class ≢ l
     → Held (tables d b) r l (tables d (leaves d q b) r l i 1) k (tables d (leaves d q b) r l i k .class)
     ⊎ Named d b q r l (tables d (leaves d q b) r l i 1) k (tables d (leaves d q b) r l i k .class)
@@ -248,11 +248,11 @@ TrustIsNamed =
 
 pub record SeesOnly (d : Description) (q : Request) : Type 0 where
   -- the answer and the rows shown depend only on levels that c dominates
-  pub reply : (b b′ : Buffers) → Yes d b → Yes d b′ → SeesSame d (subject q) b b′ → hears d q b ≡ hears d q b′
+  pub reply : (b b′ : Ledger) → Yes d b → Yes d b′ → SeesSame d (subject q) b b′ → hears d q b ≡ hears d q b′
   -- the new rows at e, which dominates c or is c, only on levels that e dominates
-  pub above : (b b′ : Buffers) → Yes d b → Yes d b′ → (e : ℕ) → over d e (subject q) ≡ true → SeesSame d e b b′ → SeesSame d e (leaves d q b) (leaves d q b′)
+  pub above : (b b′ : Ledger) → Yes d b → Yes d b′ → (e : ℕ) → over d e (subject q) ≡ true → SeesSame d e b b′ → SeesSame d e (leaves d q b) (leaves d q b′)
   -- levels that don't dominate c stay
-  pub stays : (b : Buffers) → Yes d b → (l : ℕ) → (over d l (subject q) ≡ true → ⊥) → stateOf d (leaves d q b) l ≡ stateOf d b l
+  pub stays : (b : Ledger) → Yes d b → (l : ℕ) → (over d l (subject q) ≡ true → ⊥) → pagesOf d (leaves d q b) l ≡ pagesOf d b l
 
 abbrev pub OnlySeen : Type 0
 OnlySeen = (d : Description) (q : Request) → SeesOnly d q
@@ -260,4 +260,4 @@ OnlySeen = (d : Description) (q : Request) → SeesOnly d q
 -- ---- visible-legal
 
 abbrev pub VisibleLegal : Type 0
-VisibleLegal = (d : Description) (b : Buffers) (c : ℕ) → Yes d b → Yes d (buffersOf d (seen d c (stateOf d b)))
+VisibleLegal = (d : Description) (b : Ledger) (c : ℕ) → Yes d b → Yes d (ledgerOf d (seenPages d c (pagesOf d b)))
