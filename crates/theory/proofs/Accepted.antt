@@ -34,27 +34,14 @@ use Rattle.model.proofs.Sound.{relation-r}
 use Rattle.theory.proofs.Fine.{same-r, Absent, Keyed, key-is}
 use Rattle.theory.proofs.Seek.{Sought, there, nowhere, sought, at-seek}
 use Rattle.theory.proofs.Lift.{Tidy, Fits}
+use Rattle.theory.proofs.Tests.{testUnder, pass}
 use Rattle.theory.proofs.Listed.{each-listed, not-listed, key-listed}
 use Rattle.theory.proofs.Update.{met-used}
 use Rattle.theory.proofs.Fits.{update-fits, delete-fits, insert-fits, uplevel-fits}
 use Rattle.theory.proofs.Seen.{seen-row, seen-at, seen-own}
 use Rattle.model.specs.declared.What.the-variants as Whats
 
--- ---- the tests that passed
-
--- the test that stands under a fault's number
-abbrev testOf : ℕ → List (Bool × Fault) → Bool
-testOf n [] = true
-testOf n (t ∷ ts) = if eqb n (faultNumber (t .1)) then t .0 else testOf n ts
-
-pub passed : (t : Bool × Fault) (ts : List (Bool × Fault)) → firstFault (t ∷ ts) ≡ none → (t .0 ≡ true) × (firstFault ts ≡ none)
-unfolding firstFault
-passed t ts e = cases (t .0) (λ q. (q, rw (q, firstFault) at e)) (λ q. let h : some (t .1) ≡ none = rw (q, firstFault) at e in let z : _≡_ {A = ℕ} 0 1 = cc in absurd (omega (arith, z)))
-
-pass : (ts : List (Bool × Fault)) → firstFault ts ≡ none → (n : ℕ) → testOf n ts ≡ true
-pass [] e n = refl
-pass (t ∷ ts) e n =
-    if-cases (λ (b : Bool). b ≡ true) (eqb-r n (faultNumber (t .1))) (λ _. passed t ts e .0) (λ _. pass ts (passed t ts e .1) n)
+-- ---- what a statement's tests say
 
 is-based : (D : Description) (c r v : ℕ) (S : Tables) (a : ℕ) → based D c r v S a ≡ true → (over D c a ≡ true) × (at D S r a v 1 ≡ cell v a)
 unfolding based
@@ -135,7 +122,7 @@ module _ (D : Description) (L : Laws D) (G : State) (t : Tidy D (rowsOf G)) wher
   unfolding updateTests faultNumber
   update-ok c r s q level g e = rw (seen-own D G c (L .reflexive c level)) (update-fits D L T₁ c r s q t level (update-key D r s g) ranged names)
     where
-      p : (n : ℕ) → testOf n (updateTests D c r s q (seen D c G)) ≡ true
+      p : (n : ℕ) → testUnder n (updateTests D c r s q (seen D c G)) ≡ true
       p = pass (updateTests D c r s q (seen D c G)) e
 
       ranged : (k x : ℕ) → listed s k ≡ some x → inRange D r k c ≡ true
@@ -188,7 +175,7 @@ module _ (D : Description) (L : Laws D) (G : State) (t : Tidy D (rowsOf G)) wher
       self′ : over D c c ≡ true
       self′ = L .reflexive c level
 
-      p : (n : ℕ) → testOf n (insertTests D c r s (seen D c G)) ≡ true
+      p : (n : ℕ) → testUnder n (insertTests D c r s (seen D c G)) ≡ true
       p = pass (insertTests D c r s (seen D c G)) e
 
       some-key : keyListed s ≢ 0
@@ -234,7 +221,7 @@ module _ (D : Description) (L : Laws D) (G : State) (t : Tidy D (rowsOf G)) wher
       e : Cell
       e = entityOf D c r v kc S
 
-      p : (n : ℕ) → testOf n (uplevelTests D c r v kc s (seen D c G)) ≡ true
+      p : (n : ℕ) → testUnder n (uplevelTests D c r v kc s (seen D c G)) ≡ true
       p = pass (uplevelTests D c r v kc s (seen D c G)) h
 
       self′ : over D c c ≡ true

@@ -26,7 +26,7 @@ use Rattle.theory.specs.Theorems.{Yes, leaves, hears, Lengths, Says, is-
 use Rattle.theory.proofs.Described.{sound-laws}
 use Rattle.theory.proofs.Judged.{judged, legal-framed}
 use Rattle.theory.proofs.State.{fault, acts, step, reply}
-use Rattle.theory.proofs.Accepted.{passed}
+use Rattle.theory.proofs.Tests.{passed}
 use Rattle.theory.proofs.Steps.{step-legal}
 use Rattle.model.specs.declared.Answer.the-variants as Answers
 

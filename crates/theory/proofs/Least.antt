@@ -27,7 +27,7 @@ use Rattle.model.specs.Tables.{State, seen}
 use Rattle.model.specs.Run.{Request, subject, Outcome, further, firstFault, tests, allTests, refusal, refused, done}
 use Rattle.theory.specs.Places.{entryAt}
 use Rattle.theory.specs.Theorems.{hears, Test, numberOf, numbersFor, First, LeastGiven, LeastIsGiven}
-use Rattle.theory.proofs.Accepted.{passed}
+use Rattle.theory.proofs.Tests.{passed}
 use Rattle.theory.proofs.Calls.{run-refused, run-done}
 
 abbrev Tests : Type 0

@@ -17,6 +17,7 @@ pub mod Insert
 pub mod Uplevel
 pub mod Fits
 pub mod Seen
+pub mod Tests
 pub mod Accepted
 pub mod State
 pub mod Queues

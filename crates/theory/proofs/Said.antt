@@ -19,7 +19,6 @@ use Rattle.model.specs.Run.{Request, subject, relation, further, tests, effectA
 use Rattle.model.specs.Tables.{Cell, cell, nocell, Row, State, Tables, rowsOf, seen, at, lends}
 use Rattle.model.specs.declared.Description.{Description}
 use Rattle.model.specs.declared.What.the-variants as Whats
-use Rattle.model.specs.declared.Fault.the-variants as Faults
 use Rattle.model.proofs.Sound.{column-r}
 use Rattle.theory.specs.Laws.{Laws}
 use Rattle.theory.specs.Theorems.{Yes, tables, leaves, IsAbove, Deleted, OfDeleted, Emptied, NamesEmptied, Lent, DeleteSaid, DeleteAsSaid}
@@ -30,9 +29,9 @@ use Rattle.theory.proofs.Reach.{GoneAt, root, Hit, Cut, Reached, emptie
 use Rattle.theory.proofs.Update.{met-used}
 use Rattle.theory.proofs.Legality.{find, legal-tidy}
 use Rattle.theory.proofs.Seen.{seen-own}
-use Rattle.theory.proofs.Accepted.{passed, delete-unnamed}
+use Rattle.theory.proofs.Accepted.{delete-unnamed}
 use Rattle.theory.proofs.State.{fault}
-use Rattle.theory.proofs.Steps.{next, after-cells, all-passed}
+use Rattle.theory.proofs.Steps.{next, after-cells, further-passes, all-passed}
 use Rattle.theory.proofs.Calls.{Judged, yes-says, done-says, step-done, leaves-pages}
 
 module _ (d : Description) (L : Laws d) (b : Ledger) (q : Request) (y : Yes d b) (g : LegalPages d (pagesOf d b)) (passes : fault d q (pagesOf d b) ≡ none)
@@ -60,9 +59,9 @@ module _ (d : Description) (L : Laws d) (b : Ledger) (q : Request) (y : Yes d b)
   level = all-passed d L q (pagesOf d b) (legal-tidy d L T g) passes .fits _ effect .apt .level
 
   unnamed : (s v k : ℕ) → refersOf d s ≡ relation q → k ≡ foreignOf d s → W s c v k .value ≢ 0 → Meets (W (relation q) c (W s c v k .value)) → ⊥
-  unfolding fault tests further
+  unfolding further
   unnamed = delete-unnamed d L (cellsOf (pagesOf d b)) (legal-tidy d L T g) c (relation q) (q .conditions)
-      level (rw (what, further) at (passed (_, Faults.Malformed) _ (passed (_, Faults.Illegal) _ passes .1) .1))
+      level (rw (what, further) at (further-passes d q (pagesOf d b) passes))
 
   -- ---- what DELETE says of the rows above
 

@@ -14,6 +14,7 @@ use Rattle.bounded.proofs.Cases.{and-left, and-right}
 use Rattle.bounded.proofs.Reflection.{is-false, of-true, decide, bool-r, ltb-r}
 use Rattle.model.specs.Description.{isLevel, over, isRelation, rowCount}
 use Rattle.model.specs.Effect.{Rows, Effect, reach, applied}
+use Rattle.model.specs.Numbers.{faultNumber}
 use Rattle.model.specs.Ledger.{Page, Pages, cellsOf}
 use Rattle.model.specs.Judge.{legalPages}
 use Rattle.model.specs.Legal.{LegalPages}
@@ -29,7 +30,8 @@ use Rattle.theory.proofs.Lift.{Tidy, Fits, stays-tidy}
 use Rattle.theory.proofs.Order.{reach-local, effects-commute, unseen-row}
 use Rattle.theory.proofs.Legality.{legal-tidy, tidy-legal}
 use Rattle.theory.proofs.Judged.{legal-judged}
-use Rattle.theory.proofs.Accepted.{passed, accepted}
+use Rattle.theory.proofs.Tests.{pass, pass-after}
+use Rattle.theory.proofs.Accepted.{accepted}
 use Rattle.theory.proofs.State.{fault, acts, step, reply}
 use Rattle.theory.specs.Queues.{Merge, Each, SameRun}
 use Rattle.theory.proofs.Runs.{Low, Apart, StepLaws}
@@ -51,6 +53,11 @@ pub after-cells : (D : Description) (q : Request) (P : Pages) → cellsOf (after
 unfolding after
 after-cells D q P = refl
 
+-- the statement's own tests stand after that of legal tables and that of its form
+pub further-passes : (D : Description) (q : Request) (P : Pages) → fault D q P ≡ none → firstFault (further D q (q .statement .what) (seen D (subject q) (cellsOf P))) ≡ none
+unfolding fault tests
+further-passes D q P e = pass-after 2 _ e
+
 module _ (D : Description) (L : Laws D) where
   -- what holds of a request that is not refused
   pub record Passed (q : Request) (S : State) : Type 0 where
@@ -58,17 +65,17 @@ module _ (D : Description) (L : Laws D) where
     pub fits : (E : Effect) → effectAs D q (q .statement .what) (seen D (subject q) S) ≡ some E → Fits D (rowsOf S) (subject q) E
 
   pub all-passed : (q : Request) (P : Pages) → Tidy D (rowsOf (cellsOf P)) → fault D q P ≡ none → Passed q (cellsOf P)
-  unfolding fault tests formed isLevel
-  all-passed q P t e = record { well = well; fits = λ E. accepted D L (cellsOf P) t q (q .statement .what) E level well (p .1) }
+  unfolding fault tests formed isLevel faultNumber
+  all-passed q P t e = record { well = well; fits = λ E. accepted D L (cellsOf P) t q (q .statement .what) E level well (further-passes D q P e) }
     where
-      p : (formed D q ≡ true) × (firstFault (further D q (q .statement .what) (seen D (subject q) (cellsOf P))) ≡ none)
-      p = passed (formed D q, Faults.Malformed) (further D q (q .statement .what) (seen D (subject q) (cellsOf P))) (passed (legalPages D P, Faults.Illegal) (tests D q P) e .1)
+      formed-is : formed D q ≡ true
+      formed-is = pass _ e 4
 
       level : subject q < D .levels
-      level = of-true (ltb-r (subject q) (D .levels)) (and-left (ltb (subject q) (D .levels)) _ (p .0))
+      level = of-true (ltb-r (subject q) (D .levels)) (and-left (ltb (subject q) (D .levels)) _ formed-is)
 
       well : formedAs D (relation q) (q .statement .what) (q .list) (q .conditions) ≡ true
-      well = and-right (isRelation D (relation q)) _ (and-right (ltb (subject q) (D .levels)) _ (p .0))
+      well = and-right (isRelation D (relation q)) _ (and-right (ltb (subject q) (D .levels)) _ formed-is)
 
   -- what a request does, if it is done: an effect that fits, or nothing
   data Went (q : Request) (S : State) : Type 0 where
