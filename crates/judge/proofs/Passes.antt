@@ -19,8 +19,9 @@ use Rattle.model.specs.declared.Description.{Description}
 use Rattle.model.specs.declared.Verdict.the-variants as Verdicts
 use Rattle.model.specs.Description.{columnCount, rowCount, refersOf, startOf, totalOf, sound}
 use Rattle.model.specs.Tables.{Cell, Tables, cell, used, place}
-use Rattle.model.specs.Buffers.{Buffers, fitting, positionOf, rowsIn, stateOf}
-use Rattle.model.specs.Judge.{rowRight, legal, judge}
+use Rattle.model.specs.Buffers.{holding, fitting, positionOf, rowsIn, stateOf}
+use Rattle.model.specs.Ledger.{lending, lentFits, pagesOf}
+use Rattle.model.specs.Judge.{rowRight, legal, legalPages, judge}
 use Rattle.model.proofs.Border.{Inside, inside-shown}
 use Rattle.keys.specs.declared.areas.Area.{Area}
 use Rattle.describe.specs.Facts.{Sane}
@@ -168,30 +169,30 @@ module _ (d : Description) (vs cs ks ss : List ℕ) (L : Laid d vs cs ks ss) (r 
 
 -- ---- the whole
 
-pub tables-legal : (d : Description) (vs cs : List ℕ) → tablesRight d (rowsIn d vs cs) ≡ legal d (stateOf d (record { values = vs; classes = cs }))
+pub tables-legal : (d : Description) (vs cs : List ℕ) → tablesRight d (rowsIn d vs cs) ≡ legal d (stateOf d (holding vs cs))
 unfolding tablesRight relationRight stateOf legal
 tables-legal d vs cs = refl
 
-module _ (d : Description) (b : Buffers) {s : Bool} (x : s ≡ sound d) where
-  pub judge-unsound : s ≡ false → Verdicts.Description ≡ judge d b
+module _ (d : Description) (vs cs : List ℕ) {s : Bool} (x : s ≡ sound d) where
+  pub judge-unsound : s ≡ false → Verdicts.Description ≡ judge d (lending (holding vs cs))
   unfolding judge
   judge-unsound t = rw (← x, t)
 
   module _ (t : s ≡ true) {n : ℕ} (y : n ≡ totalOf d) where
-    pub judge-values : length (b .values) ≢ n → Verdicts.Length ≡ judge d b
-    unfolding judge fitting
-    judge-values e = rw (← x, t, ← y, ne-eqb (length (b .values)) n e)
+    pub judge-values : length vs ≢ n → Verdicts.Length ≡ judge d (lending (holding vs cs))
+    unfolding judge lentFits fitting
+    judge-values e = rw (← x, t, ← y, ne-eqb (length vs) n e)
 
-    module _ (e : length (b .values) ≡ n) where
-      pub judge-classes : length (b .classes) ≢ n → Verdicts.Length ≡ judge d b
-      unfolding judge fitting
-      judge-classes f = rw (← x, t, ← y, eq-eqb (length (b .values)) n e, ne-eqb (length (b .classes)) n f)
+    module _ (e : length vs ≡ n) where
+      pub judge-classes : length cs ≢ n → Verdicts.Length ≡ judge d (lending (holding vs cs))
+      unfolding judge lentFits fitting
+      judge-classes f = rw (← x, t, ← y, eq-eqb (length vs) n e, ne-eqb (length cs) n f)
 
-      module _ (f : length (b .classes) ≡ n) {g : Bool} (z : g ≡ legal d (stateOf d b)) where
-        pub judge-illegal : g ≡ false → Verdicts.Illegal ≡ judge d b
-        unfolding judge fitting
-        judge-illegal q = rw (← x, t, ← y, eq-eqb (length (b .values)) n e, eq-eqb (length (b .classes)) n f, ← z, q)
+      module _ (f : length cs ≡ n) {g : Bool} (z : g ≡ legal d (stateOf d (holding vs cs))) where
+        pub judge-illegal : g ≡ false → Verdicts.Illegal ≡ judge d (lending (holding vs cs))
+        unfolding judge lentFits fitting pagesOf legalPages
+        judge-illegal q = rw (← x, t, ← y, eq-eqb (length vs) n e, eq-eqb (length cs) n f, ← z, q)
 
-        pub judge-legal : g ≡ true → Verdicts.Legal ≡ judge d b
-        unfolding judge fitting
-        judge-legal q = rw (← x, t, ← y, eq-eqb (length (b .values)) n e, eq-eqb (length (b .classes)) n f, ← z, q)
+        pub judge-legal : g ≡ true → Verdicts.Legal ≡ judge d (lending (holding vs cs))
+        unfolding judge lentFits fitting pagesOf legalPages
+        judge-legal q = rw (← x, t, ← y, eq-eqb (length vs) n e, eq-eqb (length cs) n f, ← z, q)

@@ -12,7 +12,8 @@ ghost use mathlib.Core.Bool.{true};
 ghost use lib.ListN.{length};
 ghost use Rattle.level.specs.Order.{orderOf};
 ghost use Rattle.model.specs.Description as descriptions;
-ghost use Rattle.model.specs.Buffers.{stateOf};
+ghost use Rattle.model.specs.Buffers.{holding, stateOf};
+ghost use Rattle.model.specs.Ledger.{lending};
 ghost use Rattle.model.specs.Judge as judges;
 
 // The tables are legal. The order and the ranges are laid out as words and the keys side by side; that no key stands twice at a level is tested
@@ -20,7 +21,7 @@ ghost use Rattle.model.specs.Judge as judges;
 fn legal(description: Description, order: [[bool; 16]; 16], values: &[u32], classes: &[u8]) -> bool
     requires { ⌜ (descriptions.sound description ≡ true) × (order ≡ orderOf (description .labels) (description .levels)) ⌝ }
     requires { ⌜ (length (now values) ≡ descriptions.totalOf description) × (length (now classes) ≡ descriptions.totalOf description) ⌝ }
-    ensures { λ r. ⌜ r ≡ judges.legal description (stateOf description (record { values = now (values .entry); classes = now (classes .entry) })) ⌝ }
+    ensures { λ r. ⌜ r ≡ judges.legal description (stateOf description (holding (now (values .entry)) (now (classes .entry)))) ⌝ }
 {
     let below = words::words(order, false);
     let above = words::words(order, true);
@@ -51,7 +52,7 @@ pub fn verdict(
     classes: &[u8],
 ) -> Verdict
     requires { ⌜ order ≡ orderOf (description .labels) (description .levels) ⌝ }
-    ensures { λ r. ⌜ r ≡ judges.judge description (record { values = now (values .entry); classes = now (classes .entry) }) ⌝ }
+    ensures { λ r. ⌜ r ≡ judges.judge description (lending (holding (now (values .entry)) (now (classes .entry)))) ⌝ }
 {
     if !describe::ordered(description, order) {
         return Verdict::Description;
@@ -71,7 +72,7 @@ pub fn verdict(
 
 // The same for any description: the order is laid out first.
 pub fn judge(description: Description, values: &[u32], classes: &[u8]) -> Verdict
-    ensures { λ r. ⌜ r ≡ judges.judge description (record { values = now (values .entry); classes = now (classes .entry) }) ⌝ }
+    ensures { λ r. ⌜ r ≡ judges.judge description (lending (holding (now (values .entry)) (now (classes .entry)))) ⌝ }
 {
     let levels = describe::wide(description.levels);
     let labels = description.labels;

@@ -1,4 +1,4 @@
--- What a verdict says of a description and two buffers.
+-- What a verdict says of a description and a ledger.
 -- Assumes nothing.
 use Prim.Native.Nat.{ℕ}
 use mathlib.Core.Path.{_≡_, refl, ap, _∙_, sym}
@@ -11,8 +11,9 @@ use Rattle.model.specs.declared.Description.{Description}
 use Rattle.model.specs.declared.Verdict.{Verdict}
 use Rattle.model.specs.declared.Verdict.the-variants as Verdicts
 use Rattle.model.specs.Description.{sound}
-use Rattle.model.specs.Buffers.{Buffers, holding, fitting, stateOf}
-use Rattle.model.specs.Judge.{legal, judge}
+use Rattle.model.specs.Buffers.{holding}
+use Rattle.model.specs.Ledger.{Ledger, lending, lentFits, pagesOf}
+use Rattle.model.specs.Judge.{legalPages, judge}
 use Rattle.model.specs.Numbers.{verdictNumber}
 use Rattle.register.specs.Facts.{Ordering, Judged}
 
@@ -47,24 +48,25 @@ right true false l e = absurd (omega (arith, ap verdictNumber e))
 right true true false e = absurd (omega (arith, ap verdictNumber e))
 right true true true e = (refl, refl, refl)
 
-module _ (d : Description) (b : Buffers) {v : Verdict} (j : v ≡ judge d b) where
+module _ (d : Description) (b : Ledger) {v : Verdict} (j : v ≡ judge d b) where
   pub says-unsound : v ≡ Verdicts.Description → sound d ≡ false
   unfolding judge
-  says-unsound e = unsound (sound d) (fitting d b) (legal d (stateOf d b)) (sym j ∙ e)
+  says-unsound e = unsound (sound d) (lentFits d b) (legalPages d (pagesOf d b)) (sym j ∙ e)
 
-  pub says-unfit : v ≡ Verdicts.Length → (sound d ≡ true) × (fitting d b ≡ false)
+  pub says-unfit : v ≡ Verdicts.Length → (sound d ≡ true) × (lentFits d b ≡ false)
   unfolding judge
-  says-unfit e = unfit (sound d) (fitting d b) (legal d (stateOf d b)) (sym j ∙ e)
+  says-unfit e = unfit (sound d) (lentFits d b) (legalPages d (pagesOf d b)) (sym j ∙ e)
 
-  pub says-illegal : v ≡ Verdicts.Illegal → (sound d ≡ true) × (fitting d b ≡ true) × (legal d (stateOf d b) ≡ false)
+  pub says-illegal : v ≡ Verdicts.Illegal → (sound d ≡ true) × (lentFits d b ≡ true) × (legalPages d (pagesOf d b) ≡ false)
   unfolding judge
-  says-illegal e = illegal (sound d) (fitting d b) (legal d (stateOf d b)) (sym j ∙ e)
+  says-illegal e = illegal (sound d) (lentFits d b) (legalPages d (pagesOf d b)) (sym j ∙ e)
 
-  pub says-legal : v ≡ Verdicts.Legal → (sound d ≡ true) × (fitting d b ≡ true) × (legal d (stateOf d b) ≡ true)
+  pub says-legal : v ≡ Verdicts.Legal → (sound d ≡ true) × (lentFits d b ≡ true) × (legalPages d (pagesOf d b) ≡ true)
   unfolding judge
-  says-legal e = right (sound d) (fitting d b) (legal d (stateOf d b)) (sym j ∙ e)
+  says-legal e = right (sound d) (lentFits d b) (legalPages d (pagesOf d b)) (sym j ∙ e)
 
-pub judged-of : (d : Description) (order : List (List Bool)) (vs cs : List ℕ) {v : Verdict} → v ≡ judge d (holding vs cs) → v ≡ Verdicts.Legal → order ≡ orderOf (d .labels) (d .levels) → Judged d order vs cs
+pub judged-of : (d : Description) (order : List (List Bool)) (vs cs : List ℕ) {v : Verdict} → v ≡ judge d (lending (holding vs cs)) → v ≡ Verdicts.Legal → order ≡ orderOf (d .labels) (d .levels) → Judged d order vs cs
+unfolding lentFits pagesOf legalPages
 judged-of d order vs cs j e o =
-    let k = says-legal d (holding vs cs) j e in
+    let k = says-legal d (lending (holding vs cs)) j e in
     record { ordering = record { sound-is = k .0; order-is = o }; fits = k .1; legal-is = k .2 }

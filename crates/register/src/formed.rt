@@ -3,13 +3,12 @@ use model::Description;
 use model::Statement;
 use model::What;
 ghost use mathlib.Core.Path.{_≡_};
-ghost use mathlib.Core.Bool.{true, _&&_};
 ghost use lib.ListN.{length};
 ghost use Rattle.model.specs.declared.What.the-variants as Whats;
-ghost use Rattle.model.specs.Description.{isLevel, isRelation};
 ghost use Rattle.model.specs.Run.{formedAs};
 ghost use Rattle.asked.specs.Facts.{Ordered, Related};
 ghost use Rattle.register.specs.Facts.{Ordering};
+ghost use Rattle.register.specs.Calls.{wellFormed};
 
 fn inserts(
     list: &[u32],
@@ -147,7 +146,7 @@ pub(crate) fn statement(
     statement: Statement,
 ) -> bool
     requires { ⌜ Ordering description order ⌝ }
-    ensures { λ r. ⌜ r ≡ (isLevel description (statement .level) && (isRelation description (statement .relation) && formedAs description (statement .relation) (statement .what) (now (list .entry)) (now (conditions .entry)))) ⌝ }
+    ensures { λ r. ⌜ r ≡ wellFormed description statement (now (list .entry)) (now (conditions .entry)) ⌝ }
 {
     if description.levels <= statement.level {
         return false;

@@ -9,13 +9,13 @@ use model::Statement;
 use model::Verdict;
 ghost use mathlib.Core.Path.{_≡_};
 ghost use Rattle.model.specs.Judge as judges;
-ghost use Rattle.model.specs.Run as runs;
 ghost use Rattle.model.specs.Buffers.{holding};
-ghost use Rattle.register.specs.Calls.{request, outcome};
+ghost use Rattle.model.specs.Ledger.{lending};
+ghost use Rattle.register.specs.Calls.{Runs};
 
 // What is to be said of a description and two buffers: the first of what is wrong.
 pub fn judge(description: Description, values: &[u32], classes: &[u8]) -> Verdict
-    ensures { λ r. ⌜ r ≡ judges.judge description (holding (now (values .entry)) (now (classes .entry))) ⌝ }
+    ensures { λ r. ⌜ r ≡ judges.judge description (lending (holding (now (values .entry)) (now (classes .entry)))) ⌝ }
 {
     judge::judge(description, values, classes)
 }
@@ -31,7 +31,7 @@ pub fn run(
     shown: &mut [u32],
     owners: &mut [u8],
 ) -> Answer
-    ensures { λ r. ⌜ outcome r (now (values .exit)) (now (classes .exit)) (now (shown .exit)) (now (owners .exit)) ≡ runs.run description (holding (now (values .entry)) (now (classes .entry))) (request statement (now (list .entry)) (now (conditions .entry)) (now (shown .entry)) (now (owners .entry))) ⌝ }
+    ensures { λ r. ⌜ Runs description statement list conditions values classes shown owners r ⌝ }
 {
     let levels = description.levels as usize;
     let labels = description.labels;

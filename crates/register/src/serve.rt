@@ -13,10 +13,9 @@ use update::update;
 use uplevel::uplevel;
 ghost use mathlib.Core.Path.{_≡_};
 ghost use mathlib.Core.Bool.{true};
-ghost use Rattle.model.specs.Run as runs;
-ghost use Rattle.model.specs.Buffers.{holding};
+ghost use Rattle.model.specs.Run.{formed as formedOf};
 ghost use Rattle.register.specs.Facts.{Judged};
-ghost use Rattle.register.specs.Calls.{request, outcome};
+ghost use Rattle.register.specs.Calls.{request, Runs, Carries};
 
 // A statement that is well formed is carried out.
 fn carry(
@@ -31,8 +30,8 @@ fn carry(
     statement: Statement,
 ) -> Answer
     requires { ⌜ Judged description order (now values) (now classes) ⌝ }
-    requires { ⌜ runs.formed description (request statement (now list) (now conditions) (now shown) (now owners)) ≡ true ⌝ }
-    ensures { λ r. ⌜ outcome r (now (values .exit)) (now (classes .exit)) (now (shown .exit)) (now (owners .exit)) ≡ runs.run description (holding (now (values .entry)) (now (classes .entry))) (request statement (now (list .entry)) (now (conditions .entry)) (now (shown .entry)) (now (owners .entry))) ⌝ }
+    requires { ⌜ formedOf description (request statement (now list) (now conditions) (now shown) (now owners)) ≡ true ⌝ }
+    ensures { λ r. ⌜ Carries description statement list conditions values classes shown owners r ⌝ }
 {
     let level = statement.level as usize;
     let relation = statement.relation as usize;
@@ -111,7 +110,7 @@ pub(crate) fn serve(
     statement: Statement,
 ) -> Answer
     requires { ⌜ Judged description order (now values) (now classes) ⌝ }
-    ensures { λ r. ⌜ outcome r (now (values .exit)) (now (classes .exit)) (now (shown .exit)) (now (owners .exit)) ≡ runs.run description (holding (now (values .entry)) (now (classes .entry))) (request statement (now (list .entry)) (now (conditions .entry)) (now (shown .entry)) (now (owners .entry))) ⌝ }
+    ensures { λ r. ⌜ Runs description statement list conditions values classes shown owners r ⌝ }
 {
     if !formed::statement(list, conditions, description, order, statement) {
         return Answer::Refused(Fault::Malformed);

@@ -14,6 +14,7 @@ use Rattle.model.specs.declared.Statement.{Statement}
 use Rattle.model.specs.declared.Answer.{Answer}
 use Rattle.model.specs.Description.{columnCount, totalOf, sound}
 use Rattle.model.specs.Buffers.{Buffers, holding, fitting}
+use Rattle.model.specs.Ledger.{lending}
 use Rattle.model.specs.Run.{Request, Outcome, run}
 use Rattle.theory.proofs.Calls.{run-refused}
 use Rattle.records.specs.declared.Read.{Read}
@@ -28,7 +29,7 @@ use Rattle.lines.specs.Written.{Wrote, written}
 use Rattle.register.specs.Calls.{request, outcome}
 use Rattle.register.proofs.Outcomes.{unsound-refused}
 use Rattle.stream.specs.declared.Stepped.{Stepped}
-use Rattle.stream.specs.Step.{Turn, cellsOf, tables, keeping, describing, refuses, silent, labelsTurn, relationTurn, rowTurn, call, answered, statementTurn, turnOf, step}
+use Rattle.stream.specs.Step.{Turn, extentOf, lent, keeping, describing, refuses, silent, labelsTurn, relationTurn, rowTurn, call, answered, statementTurn, turnOf, step}
 use Rattle.stream.specs.Facts.{holds, Took}
 use Rattle.stream.proofs.Parts.{take-least, drop-least, take-written, room-written}
 
@@ -46,8 +47,8 @@ quiet last d values classes text p =
 
 -- ---- how many cells there are
 
-all-cells : (d : Description) → sound d ≡ true → cellsOf d ≡ totalOf d
-unfolding cellsOf
+all-cells : (d : Description) → sound d ≡ true → extentOf d ≡ totalOf d
+unfolding extentOf
 all-cells d s = rw s
 
 -- ---- records of kind 1 and 2
@@ -88,31 +89,31 @@ unfolding placeable
 placed-sound d b bytes t = and-left (sound d) _ t
 
 module _ (last : ℕ) (d : Description) (values classes : List ℕ) (number : ℕ) (bytes : List ℕ) where
-  row-unplaced : placeable d (tables (holds last d values classes)) bytes ≡ false → rowTurn (holds last d values classes) number bytes ≡ refuses (holds last d values classes) number
+  row-unplaced : placeable d (lent (holds last d values classes) .tables) bytes ≡ false → rowTurn (holds last d values classes) number bytes ≡ refuses (holds last d values classes) number
   unfolding rowTurn
   row-unplaced p = rw p
 
   pub row-values : {extent : ℕ} → extent ≡ totalOf d → length values < extent → rowTurn (holds last d values classes) number bytes ≡ refuses (holds last d values classes) number
-  unfolding tables
+  unfolding lent
   row-values {extent} e h =
       row-unplaced
-      (unfit d _ bytes (λ s. fit-values d _ (omega (arith, e, all-cells d s, length-take (cellsOf d) values))))
+      (unfit d _ bytes (λ s. fit-values d _ (omega (arith, e, all-cells d s, length-take (extentOf d) values))))
 
   pub row-classes : {extent : ℕ} → extent ≡ totalOf d → length classes < extent → rowTurn (holds last d values classes) number bytes ≡ refuses (holds last d values classes) number
-  unfolding tables
+  unfolding lent
   row-classes {extent} e h =
       row-unplaced
-      (unfit d _ bytes (λ s. fit-classes d _ (omega (arith, e, all-cells d s, length-take (cellsOf d) classes))))
+      (unfit d _ bytes (λ s. fit-classes d _ (omega (arith, e, all-cells d s, length-take (extentOf d) classes))))
 
   module _ {extent : ℕ} {values′ classes′ : List ℕ} {done : Bool} (e : extent ≡ totalOf d) (k : Places d bytes (holding (take extent values) (take extent classes)) (holding values′ classes′) done) where
-    all-is : sound d ≡ true → extent ≡ cellsOf d
+    all-is : sound d ≡ true → extent ≡ extentOf d
     all-is s = e ∙ sym (all-cells d s)
 
-    places : sound d ≡ true → Places d bytes (tables (holds last d values classes)) (holding values′ classes′) done
-    unfolding tables
+    places : sound d ≡ true → Places d bytes (lent (holds last d values classes) .tables) (holding values′ classes′) done
+    unfolding lent
     places s = rw (all-is s) at k
 
-    unplaced : done ≡ false → placeable d (tables (holds last d values classes)) bytes ≡ false
+    unplaced : done ≡ false → placeable d (lent (holds last d values classes) .tables) bytes ≡ false
     unplaced f = cases (sound d) (λ s. sym (places s .done-is) ∙ f) (λ s. unfit d _ bytes (λ t. clash t s))
 
     unchanged : done ≡ false → holding values′ classes′ ≡ holding (take extent values) (take extent classes)
@@ -138,23 +139,23 @@ module _ (d : Description) (values classes : List ℕ) (kind : ℕ) (statement :
   answered-took : {o : Outcome} {values′ classes′ shown′ owners′ text text′ : List ℕ} {answer : Answer} {printed : ℕ}
       → outcome answer values′ classes′ shown′ owners′ ≡ o
       → Wrote 0 (answerText (statement .what) answer (columnCount d (statement .relation)) shown′ owners′) text text′ printed
-      → Took (answered (holds 0 d values classes) kind statement o) text (values′ ++ drop (cellsOf d) values) (classes′ ++ drop (cellsOf d) classes) text′ (stepped true printed kind d)
+      → Took (answered (holds 0 d values classes) kind statement o) text (values′ ++ drop (extentOf d) values) (classes′ ++ drop (extentOf d) classes) text′ (stepped true printed kind d)
   unfolding answered keeping
   answered-took p w = rw (← p) (record { held-is = refl; goes-is = refl; text-is = w })
 
   -- where the description breaks a rule, the register leaves what it is handed, whatever part of the room that is
   answered-unsound : (q : Request) (a b : ℕ) {printed : ℕ} {values′ classes′ shown′ owners′ text text′ : List ℕ} {answer : Answer}
       → sound d ≡ false
-      → outcome answer values′ classes′ shown′ owners′ ≡ run d (holding (take a values) (take b classes)) q
+      → outcome answer values′ classes′ shown′ owners′ ≡ run d (lending (holding (take a values) (take b classes))) q
       → Wrote 0 (answerText (statement .what) answer (columnCount d (statement .relation)) shown′ owners′) text text′ printed
-      → Took (answered (holds 0 d values classes) kind statement (run d (tables (holds 0 d values classes)) q)) text (values′ ++ drop a values) (classes′ ++ drop b classes) text′ (stepped true printed kind d)
-  unfolding answered keeping tables
+      → Took (answered (holds 0 d values classes) kind statement (run d (lent (holds 0 d values classes)) q)) text (values′ ++ drop a values) (classes′ ++ drop b classes) text′ (stepped true printed kind d)
+  unfolding answered keeping lent
   answered-unsound q a b {printed} {text = text} {text′ = text′} s r w =
       let k = r ∙ run-refused d _ q (unsound-refused d _ q s) in
-      let n = cellsOf d in
-      let v = ap (λ o. o .buffers .values ++ drop a values) k ∙ take-append-drop a values ∙ sym (take-append-drop n values) in
-      let u = ap (λ o. o .buffers .classes ++ drop b classes) k ∙ take-append-drop b classes ∙ sym (take-append-drop n classes) in
-      rw (run-refused d (holding (take n values) (take n classes)) q (unsound-refused d _ q s))
+      let n = extentOf d in
+      let v = ap (λ o. o .ledger .tables .values ++ drop a values) k ∙ take-append-drop a values ∙ sym (take-append-drop n values) in
+      let u = ap (λ o. o .ledger .tables .classes ++ drop b classes) k ∙ take-append-drop b classes ∙ sym (take-append-drop n classes) in
+      rw (run-refused d (lending (holding (take n values) (take n classes))) q (unsound-refused d _ q s))
       (record {
         held-is = λ i. holds kind d (v i) (u i);
         goes-is = refl;
@@ -163,21 +164,21 @@ module _ (d : Description) (values classes : List ℕ) (kind : ℕ) (statement :
 
   pub answer-took : (q : Request) {extent a b columns : ℕ} {values′ classes′ shown′ owners′ text text′ : List ℕ} {answer : Answer} {printed : ℕ}
       → extent ≡ totalOf d → a ≡ min extent (length values) → b ≡ min extent (length classes)
-      → outcome answer values′ classes′ shown′ owners′ ≡ run d (holding (take a values) (take b classes)) q
+      → outcome answer values′ classes′ shown′ owners′ ≡ run d (lending (holding (take a values) (take b classes))) q
       → columns ≡ columnCount d (statement .relation)
       → Wrote 0 (answerText (statement .what) answer columns shown′ owners′) text text′ printed
-      → Took (answered (holds 0 d values classes) kind statement (run d (tables (holds 0 d values classes)) q)) text (values′ ++ drop a values) (classes′ ++ drop b classes) text′ (stepped true printed kind d)
-  unfolding tables
+      → Took (answered (holds 0 d values classes) kind statement (run d (lent (holds 0 d values classes)) q)) text (values′ ++ drop a values) (classes′ ++ drop b classes) text′ (stepped true printed kind d)
+  unfolding lent
   answer-took q {extent} {a} {b} e p s r c w =
       cases (sound d)
       (λ h.
-      let x : extent ≡ cellsOf d = e ∙ sym (all-cells d h) in
-      let pa : a ≡ min (cellsOf d) (length values) = rw (← x) p in
-      let pb : b ≡ min (cellsOf d) (length classes) = rw (← x) s in
-      let ta : take a values ≡ take (cellsOf d) values = rw pa (take-least (cellsOf d) values) in
-      let tb : take b classes ≡ take (cellsOf d) classes = rw pb (take-least (cellsOf d) classes) in
-      let da : drop a values ≡ drop (cellsOf d) values = rw pa (drop-least (cellsOf d) values) in
-      let db : drop b classes ≡ drop (cellsOf d) classes = rw pb (drop-least (cellsOf d) classes) in
+      let x : extent ≡ extentOf d = e ∙ sym (all-cells d h) in
+      let pa : a ≡ min (extentOf d) (length values) = rw (← x) p in
+      let pb : b ≡ min (extentOf d) (length classes) = rw (← x) s in
+      let ta : take a values ≡ take (extentOf d) values = rw pa (take-least (extentOf d) values) in
+      let tb : take b classes ≡ take (extentOf d) classes = rw pb (take-least (extentOf d) classes) in
+      let da : drop a values ≡ drop (extentOf d) values = rw pa (drop-least (extentOf d) values) in
+      let db : drop b classes ≡ drop (extentOf d) classes = rw pb (drop-least (extentOf d) classes) in
       rw (da, db) (answered-took (rw (ta, tb) at r) (rw c at w)))
       (λ h. answered-unsound q a b h r (rw c at w))
 
@@ -231,27 +232,27 @@ module _ (last : ℕ) (d : Description) (values classes : List ℕ) (kind number
   statement-refused place p q = rw (read-refused number bytes (no-statement number bytes place p q), statementTurn)
 
   statement-run : isStatement bytes ≡ true → statementTurn (holds last d values classes) kind number bytes
-      ≡ answered (holds last d values classes) kind (statementOf bytes) (run d (tables (holds last d values classes)) (call (statementOf bytes) bytes))
+      ≡ answered (holds last d values classes) kind (statementOf bytes) (run d (lent (holds last d values classes)) (call (statementOf bytes) bytes))
   unfolding statementTurn
   statement-run s = rw (read-statement number bytes s, statementTurn)
 
   -- what was the last kind is no part of an answer
-  any-last : (statement : Statement) (q : Request) → answered (holds last d values classes) kind statement (run d (tables (holds last d values classes)) q) ≡ answered (holds 0 d values classes) kind statement (run d (tables (holds 0 d values classes)) q)
-  unfolding answered keeping tables
+  any-last : (statement : Statement) (q : Request) → answered (holds last d values classes) kind statement (run d (lent (holds last d values classes)) q) ≡ answered (holds 0 d values classes) kind statement (run d (lent (holds 0 d values classes)) q)
+  unfolding answered keeping lent
   any-last statement q = refl
 
   pub statement-taken : {list list′ conditions conditions′ : List ℕ} {r : Read} {statement : Statement} {listed tested : ℕ}
       → Reading bytes number list list′ conditions conditions′ r
       → r ≡ Reads.Statement statement listed tested
       → statementTurn (holds last d values classes) kind number bytes
-      ≡ answered (holds 0 d values classes) kind statement (run d (tables (holds 0 d values classes)) (request statement (take listed list′) (take tested conditions′) (replicate 8192 0) (replicate 9216 0)))
+      ≡ answered (holds 0 d values classes) kind statement (run d (lent (holds 0 d values classes)) (request statement (take listed list′) (take tested conditions′) (replicate 8192 0) (replicate 9216 0)))
   statement-taken {list} {list′} {conditions} {conditions′} {r} {statement} {listed} {tested} k q =
       let z = stated number bytes (k .answer-is) q in
       let a : take listed list′ ≡ listOf bytes = take-written list (k .list-is) (list-all number bytes (z .is)) (z .listed-is) in
       let b : take tested conditions′ ≡ conditionsOf bytes = take-written conditions (k .conditions-is) (conditions-all number bytes (z .is)) (z .tested-is) in
       statement-run (z .is) ∙ (any-last (statementOf bytes) (call (statementOf bytes) bytes)
-      ∙ (ap (λ c. answered (holds 0 d values classes) kind (statementOf bytes) (run d (tables (holds 0 d values classes)) c)) (same-call number bytes (z .statement-is) a b)
-      ∙ ap (λ s. answered (holds 0 d values classes) kind s (run d (tables (holds 0 d values classes)) (request statement (take listed list′) (take tested conditions′) (replicate 8192 0) (replicate 9216 0)))) (sym (z .statement-is))))
+      ∙ (ap (λ c. answered (holds 0 d values classes) kind (statementOf bytes) (run d (lent (holds 0 d values classes)) c)) (same-call number bytes (z .statement-is) a b)
+      ∙ ap (λ s. answered (holds 0 d values classes) kind s (run d (lent (holds 0 d values classes)) (request statement (take listed list′) (take tested conditions′) (replicate 8192 0) (replicate 9216 0)))) (sym (z .statement-is))))
 
 -- ---- any record
 

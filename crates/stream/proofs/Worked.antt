@@ -10,7 +10,7 @@ use Rattle.records.specs.Statements.{whatOf, statementOf, hasCells, listOf, lis
 use Rattle.records.specs.Descriptions.{nothing, isLabels, labelCount, labelAt, labelsOf, labelled, isRelated, ends, withRelation, related}
 use Rattle.lines.specs.Text.{digit, digitsIn, decimal}
 use Rattle.lines.specs.Lines.{kindOf, answerLine, classText, cellText, rowLine, rowLines, answerText, refusalText}
-use Rattle.stream.specs.Step.{cellsOf, tables, keeping, describing, refuses, silent, labelsTurn, relationTurn, call, answered, statementTurn, turnOf, step}
+use Rattle.stream.specs.Step.{extentOf, lent, keeping, describing, refuses, silent, labelsTurn, relationTurn, call, answered, statementTurn, turnOf, step}
 use Rattle.stream.specs.Stream.{start, printedIn, printed}
 
 -- `04000100 00000100`
@@ -54,7 +54,7 @@ abbrev high : List ℕ
 high = 114 ∷ 32 ∷ 49 ∷ 32 ∷ 55 ∷ 47 ∷ 48 ∷ 32 ∷ 50 ∷ 48 ∷ 47 ∷ 48 ∷ 10 ∷ []
 
 pub sample : printed (labels ++ (relation ++ (insert ++ (uplevel ++ select)))) ≡ inserted ++ (uplevelled ++ (selected ++ (low ++ high)))
-unfolding computed pair quad fieldsFrom cellsFrom testsFrom sizeOf whole follows kindAfter whatOf statementOf hasCells listOf listEnd hasConditions conditionCount conditionsOf lengthAsked isStatement readOf nothing isLabels labelCount labelAt labelsOf labelled isRelated ends withRelation related digit digitsIn decimal kindOf answerLine classText cellText rowLine rowLines answerText cellsOf tables keeping describing silent labelsTurn relationTurn call answered statementTurn turnOf step start printedIn printed
+unfolding computed pair quad fieldsFrom cellsFrom testsFrom sizeOf whole follows kindAfter whatOf statementOf hasCells listOf listEnd hasConditions conditionCount conditionsOf lengthAsked isStatement readOf nothing isLabels labelCount labelAt labelsOf labelled isRelated ends withRelation related digit digitsIn decimal kindOf answerLine classText cellText rowLine rowLines answerText extentOf lent keeping describing silent labelsTurn relationTurn call answered statementTurn turnOf step start printedIn printed
 sample = refl
 
 -- `x 2`: "A record out of order .. prints `x`, a space and its number from 1, and ends"

@@ -9,7 +9,7 @@ use Rattle.bounded.specs.Tests.{if_then_else_}
 use Rattle.model.specs.declared.Description.{Description}
 use Rattle.model.specs.declared.Statement.{Statement}
 use Rattle.model.specs.Description.{columnCount, totalOf, sound}
-use Rattle.model.specs.Buffers.{Buffers}
+use Rattle.model.specs.Ledger.{Ledger, lending}
 use Rattle.model.specs.Run.{Request, Outcome, run}
 use Rattle.records.specs.declared.Read.the-variants as Reads
 use Rattle.records.specs.Record.{kindAfter}
@@ -18,35 +18,38 @@ use Rattle.records.specs.Descriptions.{isLabels, labelled, isRelated, related}
 use Rattle.placing.specs.Placing.{placeable, placed}
 use Rattle.lines.specs.Lines.{answerText, refusalText}
 
--- what is kept from record to record: the kind of the last one, 0 where none has come, the description, and room for the tables
+-- what is kept from record to record: the kind of the last one, 0 where none has come, the description, and room for the ledger
 pub record Held : Type 0 where
   pub last : ℕ
   pub description : Description
-  pub values : List ℕ
-  pub classes : List ℕ
+  pub room : Ledger
 
 -- how many cells the tables take; a description that breaks a rule has none
-unfoldable pub cellsOf : Description → ℕ
-cellsOf d = if sound d then totalOf d else 0
+unfoldable pub extentOf : Description → ℕ
+extentOf d = if sound d then totalOf d else 0
 
--- the tables: the first cells of the room
-unfoldable pub tables : Held → Buffers
-tables h =
-    record { values = take (cellsOf (h .description)) (h .values); classes = take (cellsOf (h .description)) (h .classes) }
+-- the ledger: the first cells of the room
+unfoldable pub lent : Held → Ledger
+lent h =
+    let n = extentOf (h .description) in
+    lending (record { values = take n (h .room .tables .values); classes = take n (h .room .tables .classes) })
 
--- what is kept after a record of that kind that left these tables
-unfoldable pub keeping : Held → ℕ → Buffers → Held
+-- what is kept after a record of that kind that left this ledger
+unfoldable pub keeping : Held → ℕ → Ledger → Held
 keeping h kind b =
+    let n = extentOf (h .description) in
     record {
       last = kind;
       description = h .description;
-      values = b .values ++ drop (cellsOf (h .description)) (h .values);
-      classes = b .classes ++ drop (cellsOf (h .description)) (h .classes);
+      room = lending (record {
+        values = b .tables .values ++ drop n (h .room .tables .values);
+        classes = b .tables .classes ++ drop n (h .room .tables .classes);
+      });
     }
 
 -- what is kept after a record of that kind that left this description
 unfoldable pub describing : Held → ℕ → Description → Held
-describing h kind d = record { last = kind; description = d; values = h .values; classes = h .classes }
+describing h kind d = record { last = kind; description = d; room = h .room }
 
 -- what a record leaves: what is kept, what is printed, and whether the next record is read
 pub record Turn : Type 0 where
@@ -69,7 +72,8 @@ relationTurn h number bytes = if isRelated bytes then silent (describing h 2 (re
 
 unfoldable pub rowTurn : Held → ℕ → List ℕ → Turn
 rowTurn h number bytes =
-    if placeable (h .description) (tables h) bytes then silent (keeping h 3 (placed (h .description) (tables h) bytes))
+    if placeable (h .description) (lent h .tables) bytes
+    then silent (keeping h 3 (lending (placed (h .description) (lent h .tables) bytes)))
     else refuses h number
 
 -- the call of the register, with room for every answer in the output buffers
@@ -87,7 +91,7 @@ call statement bytes =
 unfoldable pub answered : Held → ℕ → Statement → Outcome → Turn
 answered h kind statement o =
     record {
-      held = keeping h kind (o .buffers);
+      held = keeping h kind (o .ledger);
       text = answerText (statement .what) (o .reply .answer) (columnCount (h .description) (statement .relation)) (o .reply .shown) (o .reply .owners);
       goes = true;
     }
@@ -96,7 +100,7 @@ answered h kind statement o =
 unfoldable pub statementTurn : Held → ℕ → ℕ → List ℕ → Turn
 statementTurn h kind number bytes =
     elim (readOf bytes number) [
-      | Reads.Statement statement listed tested ↦ answered h kind statement (run (h .description) (tables h) (call statement bytes))
+      | Reads.Statement statement listed tested ↦ answered h kind statement (run (h .description) (lent h) (call statement bytes))
       | Reads.Refused place ↦ refuses h place
     ]
 

@@ -4,13 +4,15 @@ use Prim.Native.Nat.{ℕ, zero, suc}
 use mathlib.Core.List.{List, [], _∷_, _++_}
 use lib.ListN.{length, take, drop, replicate}
 use Rattle.bounded.specs.Tests.{if_then_else_}
+use Rattle.model.specs.Buffers.{holding}
+use Rattle.model.specs.Ledger.{lending}
 use Rattle.records.specs.Record.{sizeOf}
 use Rattle.records.specs.Descriptions.{nothing}
 use Rattle.stream.specs.Step.{Held, step}
 
--- before the first record: room for every tables, all of it empty
+-- before the first record: room for every ledger, all of it empty
 unfoldable pub start : Held
-start = record { last = 0; description = nothing; values = replicate 8192 0; classes = replicate 8192 255 }
+start = record { last = 0; description = nothing; room = lending (holding (replicate 8192 0) (replicate 8192 255)) }
 
 -- what the records from number on print; each takes at least one byte, so as many turns as there are bytes are enough
 unfoldable pub printedIn : ℕ → Held → ℕ → List ℕ → List ℕ

@@ -6,13 +6,10 @@ use records::Read;
 use records::descriptions;
 use records::statement::statement;
 ghost use mathlib.Core.Path.{_≡_};
-ghost use mathlib.Core.List.{List};
-ghost use Prim.Native.Nat.{ℕ, min};
+ghost use Prim.Native.Nat.{min};
 ghost use Rattle.model.specs.Description.{columnCount};
-ghost use Rattle.model.specs.Run.{run};
-ghost use Rattle.register.specs.Calls.{request};
-ghost use Rattle.stream.specs.Step.{tables, refuses, answered, labelsTurn, relationTurn, rowTurn, statementTurn, step as stepOf};
-ghost use Rattle.stream.specs.Facts.{holds, Took};
+ghost use Rattle.stream.specs.Step.{refuses, labelsTurn, relationTurn, rowTurn, statementTurn, step as stepOf};
+ghost use Rattle.stream.specs.Facts.{Turns, TurnsAny, answering};
 
 // What is known after a record, beside the buffers.
 pub struct Stepped {
@@ -27,7 +24,7 @@ pub struct Stepped {
 
 // The record is refused.
 fn refuse(text: &mut [u8], description: Description, last: u16, number: u64) -> Stepped
-    ensures { λ r. ⌜ ((values classes : List ℕ) → Took (refuses (holds last description values classes) number) (now (text .entry)) values classes (now (text .exit)) r) ⌝ }
+    ensures { λ r. ⌜ TurnsAny (λ h. refuses h number) last description text r ⌝ }
 {
     let printed = lines::refusal(text, number);
     Stepped {
@@ -46,7 +43,7 @@ fn labels(
     last: u16,
     number: u64,
 ) -> Stepped
-    ensures { λ r. ⌜ ((values classes : List ℕ) → Took (labelsTurn (holds last description values classes) number (now (bytes .entry))) (now (text .entry)) values classes (now (text .exit)) r) ⌝ }
+    ensures { λ r. ⌜ TurnsAny (λ h. labelsTurn h number (now (bytes .entry))) last description text r ⌝ }
 {
     if !descriptions::is_labels(bytes) {
         return refuse(text, description, last, number);
@@ -68,7 +65,7 @@ fn relation(
     last: u16,
     number: u64,
 ) -> Stepped
-    ensures { λ r. ⌜ ((values classes : List ℕ) → Took (relationTurn (holds last description values classes) number (now (bytes .entry))) (now (text .entry)) values classes (now (text .exit)) r) ⌝ }
+    ensures { λ r. ⌜ TurnsAny (λ h. relationTurn h number (now (bytes .entry))) last description text r ⌝ }
 {
     if !descriptions::is_relation(bytes) {
         return refuse(text, description, last, number);
@@ -93,7 +90,7 @@ fn row(
     last: u16,
     number: u64,
 ) -> Stepped
-    ensures { λ r. ⌜ Took (rowTurn (holds last description (now (values .entry)) (now (classes .entry))) number (now (bytes .entry))) (now (text .entry)) (now (values .exit)) (now (classes .exit)) (now (text .exit)) r ⌝ }
+    ensures { λ r. ⌜ Turns (λ h. rowTurn h number (now (bytes .entry))) last description values classes text r ⌝ }
 {
     let extent = describe::total(description);
     if values.len() < extent {
@@ -156,7 +153,7 @@ fn answer(
     statement: Statement,
     kind: u16,
 ) -> Stepped
-    ensures { λ r. ⌜ Took (answered (holds 0 description (now (values .entry)) (now (classes .entry))) kind statement (run description (tables (holds 0 description (now (values .entry)) (now (classes .entry)))) (request statement (now (list .entry)) (now (conditions .entry)) (now (shown .entry)) (now (owners .entry))))) (now (text .entry)) (now (values .exit)) (now (classes .exit)) (now (text .exit)) r ⌝ }
+    ensures { λ r. ⌜ Turns (answering statement kind list conditions shown owners) 0 description values classes text r ⌝ }
 {
     let extent = describe::total(description);
     let a = least(extent, values.len());
@@ -194,7 +191,7 @@ fn call(
     kind: u16,
     number: u64,
 ) -> Stepped
-    ensures { λ r. ⌜ Took (statementTurn (holds last description (now (values .entry)) (now (classes .entry))) kind number (now (bytes .entry))) (now (text .entry)) (now (values .exit)) (now (classes .exit)) (now (text .exit)) r ⌝ }
+    ensures { λ r. ⌜ Turns (λ h. statementTurn h kind number (now (bytes .entry))) last description values classes text r ⌝ }
 {
     let mut list = [0u32; 512];
     let mut conditions = [0u32; 512];
@@ -232,7 +229,7 @@ pub fn step(
     last: u16,
     number: u64,
 ) -> Stepped
-    ensures { λ r. ⌜ Took (stepOf (holds last description (now (values .entry)) (now (classes .entry))) number (now (bytes .entry))) (now (text .entry)) (now (values .exit)) (now (classes .exit)) (now (text .exit)) r ⌝ }
+    ensures { λ r. ⌜ Turns (λ h. stepOf h number (now (bytes .entry))) last description values classes text r ⌝ }
 {
     let kind = records::whole::kind(bytes, last);
     if kind == 0 {

@@ -1,8 +1,8 @@
 use mathlib.Core.Path.{refl}
 use native.Mathlib.Omega.{arith}
 use borrow.Author.Needs.{needs}
-use Rattle.register.proofs.Outcomes.{insert-out, delete-out, update-out, uplevel-out, select-out}
-use Rattle.register.proofs.Served.{relation-known, insert-shape, delete-shape, update-shape, uplevel-shape, select-shape, standing-of, still-fits}
+use Rattle.register.proofs.Outcomes.{insert-carried, delete-carried, update-carried, uplevel-carried, select-carried}
+use Rattle.register.proofs.Served.{relation-known, insert-shape, delete-shape, update-shape, uplevel-shape, select-shape, standing-of}
 use Rattle.register.proofs.serve.carry.Statement.{statement}
 use Rattle.register.proofs.serve.carry.Tie as tie
 
@@ -75,9 +75,8 @@ same-length-2 c = search needs
 
 returns : tie.Need-returns
 returns c =
-    let s = start (c .before .before .before .before .before .before .before .before .before) in
     let k = c .before .before .before .before .insert in
-    insert-out _ _ _ _ (s .pre .0 .ordering .sound-is) (s .pre .0 .fits) (s .pre .0 .legal-is) (s .pre .1) (c .before .before .before .before .before .before .before .enum-told .given .1) (still-fits _ _ _ _ _ (s .pre .0 .fits) (k .kept .0) (k .kept .1 .0)) (k .ensures)
+    insert-carried _ _ _ _ (c .before .before .before .before .before .before .before .enum-told .given .1) (k .ensures)
 
 same-length-3 : tie.Need-same-length-3
 same-length-3 c = search needs
@@ -87,9 +86,8 @@ same-length-4 c = search needs
 
 returns-2 : tie.Need-returns-2
 returns-2 c =
-    let s = start (c .before .before .before .before .before .before .before .before .before) in
     let k = c .before .before .before .before .delete in
-    delete-out _ _ _ _ (s .pre .0 .ordering .sound-is) (s .pre .0 .fits) (s .pre .0 .legal-is) (s .pre .1) (c .before .before .before .before .before .before .before .enum-told2 .given .1) (still-fits _ _ _ _ _ (s .pre .0 .fits) (k .kept .0) (k .kept .1 .0)) (k .ensures)
+    delete-carried _ _ _ _ (c .before .before .before .before .before .before .before .enum-told2 .given .1) (k .ensures)
 
 same-length-5 : tie.Need-same-length-5
 same-length-5 c = search needs
@@ -99,9 +97,8 @@ same-length-6 c = search needs
 
 returns-3 : tie.Need-returns-3
 returns-3 c =
-    let s = start (c .before .before .before .before .before .before .before .before .before) in
     let k = c .before .before .before .before .update in
-    update-out _ _ _ _ (s .pre .0 .ordering .sound-is) (s .pre .0 .fits) (s .pre .0 .legal-is) (s .pre .1) (c .before .before .before .before .before .before .before .enum-told3 .given .1) (still-fits _ _ _ _ _ (s .pre .0 .fits) (k .kept .0) (k .kept .1 .0)) (k .ensures)
+    update-carried _ _ _ _ (c .before .before .before .before .before .before .before .enum-told3 .given .1) (k .ensures)
 
 same-length-7 : tie.Need-same-length-7
 same-length-7 c = search needs
@@ -111,9 +108,8 @@ same-length-8 c = search needs
 
 returns-4 : tie.Need-returns-4
 returns-4 c =
-    let s = start (c .before .before .before .before .before .before .before .before .before .before) in
     let k = c .before .before .before .before .uplevel in
-    uplevel-out _ _ _ _ (s .pre .0 .ordering .sound-is) (s .pre .0 .fits) (s .pre .0 .legal-is) (s .pre .1) _ _ (c .before .before .before .before .before .before .before .before .what .given .1) (still-fits _ _ _ _ _ (s .pre .0 .fits) (k .kept .0) (k .kept .1 .0)) (k .ensures)
+    uplevel-carried _ _ _ _ _ _ (c .before .before .before .before .before .before .before .before .what .given .1) (k .ensures)
 
 same-length-9 : tie.Need-same-length-9
 same-length-9 c = search needs
@@ -129,9 +125,8 @@ same-length-12 c = search needs
 
 returns-5 : tie.Need-returns-5
 returns-5 c =
-    let s = start (c .before .before .before .before .before .before .before .before .before .before .before) in
     let k = c .before .before .before .before .select in
-    select-out _ _ _ _ (s .pre .0 .ordering .sound-is) (s .pre .0 .fits) (s .pre .0 .legal-is) (s .pre .1) (c .before .before .before .before .before .before .before .before .before .enum-told4 .given .1) (k .ensures)
+    select-carried _ _ _ _ (c .before .before .before .before .before .before .before .before .before .enum-told4 .given .1) (k .ensures)
 
 pub carry-spec : {M : Type 1} → statement M
 carry-spec =
