@@ -34,8 +34,9 @@ same-length-4 c = search needs
 returns-2 : tie.Need-returns-2
 returns-2 c =
     let k = c .before .before .before .before .before .before .before .before in
-    let s = k .before .before .before .before .before .before .before .before .before .before .before .before in
-    let m = formed-is _ _ (k .before .before .before .before .before .statement .ensures) (not-false _ (k .before .before .before .before .if1 .left)) in
+    let g = k .before in
+    let s = g .before .before .before .before .before .before .before .before .before .before .before .before in
+    let m = formed-is _ _ (g .before .before .before .before .before .statement .ensures) (not-false _ (g .before .before .before .before .if1 .left)) in
     carried-out _ _ _ _ _ (s .pre) m (still-fits _ _ _ _ _ (s .pre .fits) (k .carry .kept .0) (k .carry .kept .1 .0)) (k .carry .ensures)
 
 pub serve-spec : {M : Type 1} → statement M
