@@ -12,7 +12,8 @@ use Rattle.bounded.proofs.Sum.{sum-next, sum-mono}
 use Rattle.bounded.proofs.Reflection.{is-true, of-true}
 use Rattle.model.specs.declared.Description.{Description}
 use Rattle.model.specs.Description.{between, sound, isRelation, ofRelation, rowCount, columnCount, foreignOf, refersOf, sizeOf, startOf, totalOf}
-use Rattle.model.proofs.Sound.{relation-r, Sound, Relation, Reference, sound-r, relation-of}
+use Rattle.model.proofs.Sound.{relation-r, Relation, Reference, relation-of}
+pub use Rattle.model.proofs.Sound.{sound-says}
 use Rattle.cells.specs.Layout.{InLevel}
 
 pub foreign-is : (d : Description) (r : ℕ) → isRelation d r ≡ true → getD (d .foreign) r 0 ≡ foreignOf d r
@@ -23,55 +24,51 @@ pub refers-is : (d : Description) (r : ℕ) → isRelation d r ≡ true → getD
 unfolding refersOf ofRelation
 refers-is d r h = rw h
 
-module _ (d : Description) (s : sound d ≡ true) where
-  pub sound-says : Sound d
-  sound-says = of-true (sound-r d) s
+module _ (d : Description) (s : sound d ≡ true) (r : ℕ) (h : isRelation d r ≡ true) where
+  pub relation-is : Relation d r
+  relation-is = relation-of d (sound-says d s) r h
 
-  module _ (r : ℕ) (h : isRelation d r ≡ true) where
-    pub relation-is : Relation d r
-    relation-is = relation-of d sound-says r h
+  pub relation-few : r ≤ 8
+  relation-few = omega (arith, of-true (relation-r d r) h .1, sound-says d s .few-relations)
 
-    pub relation-few : r ≤ 8
-    relation-few = omega (arith, of-true (relation-r d r) h .1, sound-says .few-relations)
+  pub row-count : getD (d .rows) r 0 ≡ rowCount d r
+  unfolding rowCount ofRelation
+  row-count = rw h
 
-    pub row-count : getD (d .rows) r 0 ≡ rowCount d r
-    unfolding rowCount ofRelation
-    row-count = rw h
+  pub column-count : getD (d .columns) r 0 ≡ columnCount d r
+  unfolding columnCount ofRelation
+  column-count = rw h
 
-    pub column-count : getD (d .columns) r 0 ≡ columnCount d r
-    unfolding columnCount ofRelation
-    column-count = rw h
+  pub rows-few : rowCount d r ≤ 64
+  rows-few = relation-is .few
 
-    pub rows-few : rowCount d r ≤ 64
-    rows-few = relation-is .few
+  pub columns-few : columnCount d r ≤ 8
+  columns-few = relation-is .narrow
 
-    pub columns-few : columnCount d r ≤ 8
-    columns-few = relation-is .narrow
+  pub rows-small : d .levels * rowCount d r ≤ 1024
+  rows-small = mul-le-mul (sound-says d s .few-levels) rows-few
 
-    pub rows-small : d .levels * rowCount d r ≤ 1024
-    rows-small = mul-le-mul (sound-says .few-levels) rows-few
+  pub size-small : d .levels * rowCount d r * columnCount d r ≤ 8192
+  size-small = mul-le-mul rows-small columns-few
 
-    pub size-small : d .levels * rowCount d r * columnCount d r ≤ 8192
-    size-small = mul-le-mul rows-small columns-few
+  pub in-level : (l : ℕ) → l < d .levels → InLevel d r l
+  in-level l g = record { relation = omega (arith, of-true (relation-r d r) h .1); level = g; keyed = relation-is .keyed }
 
-    pub in-level : (l : ℕ) → l < d .levels → InLevel d r l
-    in-level l g = record { relation = omega (arith, of-true (relation-r d r) h .1); level = g; keyed = relation-is .keyed }
+  -- the relation that it refers to
+  pub refers-relation : foreignOf d r ≢ 0 → isRelation d (refersOf d r) ≡ true
+  refers-relation n =
+      let f : Reference d r = relation-is .referring n in
+      is-true (relation-r d (refersOf d r)) (f .some, omega (arith, f .lower, of-true (relation-r d r) h .1))
 
-    -- the relation that it refers to
-    pub refers-relation : foreignOf d r ≢ 0 → isRelation d (refersOf d r) ≡ true
-    refers-relation n =
-        let f : Reference d r = relation-is .referring n in
-        is-true (relation-r d (refersOf d r)) (f .some, omega (arith, f .lower, of-true (relation-r d r) h .1))
+  pub target-relation : foreignOf d r ≢ 0 → isRelation d (getD (d .refers) r 0) ≡ true
+  target-relation n = rw (refers-is d r h) (refers-relation n)
 
-    pub target-relation : foreignOf d r ≢ 0 → isRelation d (getD (d .refers) r 0) ≡ true
-    target-relation n = rw (refers-is d r h) (refers-relation n)
-
-    -- what is before a relation, and the relation, are part of the whole
-    pub start-small : startOf d r + sizeOf d r ≤ 8192
-    unfolding startOf totalOf
-    start-small =
-        let m : sumBelow r (sizeOf d) + sizeOf d r ≤ totalOf d = sum-mono (sizeOf d) r (suc (d .relations)) (omega (arith, of-true (relation-r d r) h .1)) in
-        le-trans m (sound-says .total)
+  -- what is before a relation, and the relation, are part of the whole
+  pub start-small : startOf d r + sizeOf d r ≤ 8192
+  unfolding startOf totalOf
+  start-small =
+      let m : sumBelow r (sizeOf d) + sizeOf d r ≤ totalOf d = sum-mono (sizeOf d) r (suc (d .relations)) (omega (arith, of-true (relation-r d r) h .1)) in
+      le-trans m (sound-says d s .total)
 
 -- before relation 1 stands nothing
 no-columns : (d : Description) → columnCount d 0 ≡ 0

@@ -1,26 +1,23 @@
--- What a description's tests say, and what is known of a sound one.
+-- The tests of a description: one law for each way through the code.
 -- Assumes nothing.
 use mathlib.Core.Path.{_≡_, sym, ap, _∙_}
 use mathlib.Core.Bool.{Bool, true, false, _&&_}
-use mathlib.Core.Logic.{_≢_, ⊎-elim}
+use mathlib.Core.Logic.{_≢_}
 use mathlib.Core.List.{List}
-use Prim.Native.Nat.{ℕ, zero, suc, pred, _+_, _*_, _≤_, _<_, zero-le}
-use native.Mathlib.Nat.{lt-irrefl}
+use Prim.Native.Nat.{ℕ, suc, _+_, _*_, _≤_}
 use native.Mathlib.Numerals.{add-one}
 use native.Mathlib.Omega.{arith}
 use lib.Dec.{eqb, ltb, leb}
 use lib.ListN.{getD}
 use borrow.Author.Tests.{ne-eqb, lt-ltb}
-use Rattle.bounded.specs.Tests.{Reflects}
 use Rattle.bounded.specs.Bounded.{allBelow}
-use Rattle.bounded.proofs.Cases.{cases, order}
-use Rattle.bounded.proofs.Reflection.{of-true, decide, bool-r, not-r, and-r, if-r, all-r, eqb-r, ltb-r, leb-r}
-use Rattle.level.specs.Laws.{Distinct}
+use Rattle.bounded.proofs.Reflection.{of-true}
 use Rattle.level.specs.Order.{orderOf, entryOf}
-use Rattle.level.proofs.Levels.{level-laws, order-laws}
+use Rattle.level.proofs.Levels.{order-laws}
 use Rattle.model.specs.declared.Description.{Description}
-use Rattle.model.specs.Description.{between, distinctBelow, over, labelOf, isRelation, ofRelation, columnCount, rowCount, foreignOf, refersOf, lowOf, highOf, totalOf, labelsSound, foreignSound, relationSound, sound}
-use Rattle.describe.specs.Facts.{Bounded, Sane, Described}
+use Rattle.model.specs.Description.{between, over, columnCount, rowCount, foreignOf, refersOf, lowOf, highOf, totalOf, labelsSound, foreignSound, relationSound, sound}
+use Rattle.model.proofs.Sound.{between-r}
+use Rattle.describe.specs.Facts.{Described}
 use Rattle.describe.proofs.Sizes.{row-count, column-count, foreign-of, refers-of}
 
 -- an entry of the order
@@ -28,16 +25,10 @@ pub over-entry : (d : Description) (order : List (List Bool)) → order ≡ orde
 unfolding over
 over-entry d order e h a b = rw e (order-laws (d .labels) (d .levels) .entries h a b)
 
--- ---- what the tests say
-
-between-r : (low high n : ℕ) → Reflects ((low ≤ n) × (n ≤ high)) (between low high n)
-unfolding between
-between-r low high n = and-r (leb-r low n) (leb-r n high)
-
 pub between-says : (low high n : ℕ) {m : ℕ} {b : Bool} → m ≡ n → b ≡ between low high m → b ≡ true → (low ≤ n) × (n ≤ high)
 between-says low high n e x t = of-true (between-r low high n) (ap (between low high) (sym e) ∙ sym x ∙ t)
 
--- ---- one relation, one law for each way through the code
+-- ---- one relation
 
 module _ (d : Description) (o : List (List Bool)) (r : ℕ) (D : Described d o r) where
   pub ranged-at : (q k : ℕ) → q ≡ 9 * r + 1 → {h l : ℕ} {b : Bool} → h ≡ getD (d .high) (q + k) 0 → l ≡ getD (d .low) (q + k) 0 → b ≡ entryOf o h l
@@ -141,90 +132,3 @@ module _ (d : Description) {m : ℕ} {a : Bool} (x : m ≡ d .levels) (z : a ≡
 
         pub sound-total : g ≡ true → {k : ℕ} → k ≡ totalOf d → leb k 8192 ≡ sound d
         sound-total p s = sym (sound-as ∙ rw (p, s))
-
-module _ (d : Description) where
-  Relation : ℕ → Type 0
-  Relation r =
-      ((1 ≤ columnCount d r) × (columnCount d r ≤ 8))
-      × (((1 ≤ rowCount d r) × (rowCount d r ≤ 64))
-      × (((k : ℕ) → k < columnCount d r → over d (highOf d r (suc k)) (lowOf d r (suc k)) ≡ true)
-      × ((foreignOf d r ≡ 0 → refersOf d r ≡ 0)
-      × (foreignOf d r ≢ 0 → ((2 ≤ foreignOf d r) × (foreignOf d r ≤ columnCount d r)) × ((0 < refersOf d r) × (refersOf d r < r))))))
-
-  relation-r : (r : ℕ) → Reflects (Relation r) (relationSound d r)
-  unfolding Relation relationSound foreignSound
-  relation-r r =
-      and-r (between-r 1 8 (columnCount d r))
-      (and-r (between-r 1 64 (rowCount d r))
-      (and-r (all-r (columnCount d r) (λ k. bool-r (over d (highOf d r (suc k)) (lowOf d r (suc k)))))
-      (if-r (eqb-r (foreignOf d r) 0) (eqb-r (refersOf d r) 0)
-      (and-r (between-r 2 (columnCount d r) (foreignOf d r)) (and-r (ltb-r 0 (refersOf d r)) (ltb-r (refersOf d r) r))))))
-
-  none : (numbers : List ℕ) (r : ℕ) → isRelation d r ≡ false → ofRelation d numbers r ≡ 0
-  unfolding ofRelation
-  none numbers r e = rw e
-
-  module _ (all : (r : ℕ) → r < d .relations → Relation (suc r)) where
-    relation : (r : ℕ) → isRelation d r ≡ true → Relation r
-    unfolding isRelation
-    relation zero t = absurd (lt-irrefl 0 (of-true (between-r 1 (d .relations) 0) t .0))
-    relation (suc r) t = all r (of-true (between-r 1 (d .relations) (suc r)) t .1)
-
-    rows-few : (r : ℕ) → rowCount d r ≤ 64
-    unfolding rowCount Relation
-    rows-few r = cases (isRelation d r) (λ t. relation r t .1 .0 .1) (λ t. rw (none (d .rows) r t) zero-le)
-
-    columns-few : (r : ℕ) → columnCount d r ≤ 8
-    unfolding columnCount Relation
-    columns-few r = cases (isRelation d r) (λ t. relation r t .0 .1) (λ t. rw (none (d .columns) r t) zero-le)
-
-    named : (r : ℕ) → foreignOf d r ≢ 0 → ((2 ≤ foreignOf d r) × (foreignOf d r ≤ columnCount d r)) × ((0 < refersOf d r) × (refersOf d r < r))
-    unfolding foreignOf Relation
-    named r n = cases (isRelation d r) (λ t. relation r t .1 .1 .1 .1 n) (λ t. absurd (n (none (d .foreign) r t)))
-
-    unnamed : (r : ℕ) → foreignOf d r ≡ 0 → refersOf d r ≡ 0
-    unfolding refersOf Relation
-    unnamed r z = cases (isRelation d r) (λ t. relation r t .1 .1 .1 .0 z) (λ t. none (d .refers) r t)
-
-    column : (r : ℕ) → foreignOf d r ≤ columnCount d r
-    column r = ⊎-elim (λ z. rw z zero-le) (λ n. named r n .0 .1) (decide (eqb-r (foreignOf d r) 0))
-
-    lower : (r : ℕ) → refersOf d r ≤ pred r
-    lower r = ⊎-elim (λ z. rw (unnamed r z) zero-le) (λ n. omega (arith, named r n .1 .1)) (decide (eqb-r (foreignOf d r) 0))
-
-  -- ---- what is known once they are true
-
-  All : Type 0
-  All =
-      ((1 ≤ d .levels) × (d .levels ≤ 16))
-      × ((((l : ℕ) → l < d .levels → labelOf d l ≤ 4095) × ((a : ℕ) → a < d .levels → (b : ℕ) → b < a → labelOf d a ≢ labelOf d b))
-      × (((1 ≤ d .relations) × (d .relations ≤ 8)) × (((r : ℕ) → r < d .relations → Relation (suc r)) × (totalOf d ≤ 8192))))
-
-  says : sound d ≡ true → All
-  unfolding All sound labelsSound distinctBelow
-  says =
-      of-true
-      (and-r (between-r 1 16 (d .levels))
-      (and-r (and-r (all-r (d .levels) (λ l. leb-r (labelOf d l) 4095)) (all-r (d .levels) (λ a. all-r a (λ b. not-r (eqb-r (labelOf d a) (labelOf d b))))))
-      (and-r (between-r 1 8 (d .relations)) (and-r (all-r (d .relations) (λ r. relation-r (suc r))) (leb-r (totalOf d) 8192)))))
-
-  distinct : ((a : ℕ) → a < d .levels → (b : ℕ) → b < a → labelOf d a ≢ labelOf d b) → Distinct (d .labels) (d .levels)
-  unfolding labelOf
-  distinct f = record {
-    one = λ a b h g e. order a b (λ l. absurd (f b g a l (sym e))) (λ q. q) (λ l. absurd (f a h b l e));
-  }
-
-  pub sane-of : sound d ≡ true → Sane d
-  unfolding All over Relation
-  sane-of e =
-      let h = says e in
-      let all = h .1 .1 .1 .0 in
-      record {
-        bounded = record { levels = h .0 .1; relations = h .1 .1 .0 .1; rows = rows-few all; cols = columns-few all };
-        levels = record { few = h .0 .1; within = level-laws (d .labels) (d .levels) (distinct (h .1 .0 .1)) .within };
-        total = h .1 .1 .1 .1;
-        keyed = λ r g. all r g .0 .0;
-        column = column all;
-        lower = lower all;
-        named = λ r n. named all r n .1 .0;
-      }

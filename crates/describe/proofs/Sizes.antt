@@ -1,7 +1,7 @@
 -- The numbers of a relation, and how many cells it has.
 -- Assumes nothing.
 use mathlib.Core.Path.{_≡_, refl, sym, _∙_}
-use mathlib.Core.Bool.{false}
+use mathlib.Core.Bool.{true, false}
 use mathlib.Core.List.{List}
 use Prim.Native.Nat.{ℕ, zero, suc, _*_, _≤_, _<_, zero-le}
 use native.Mathlib.Nat.{mul-le-mul, le-of-suc-le-suc}
@@ -13,9 +13,8 @@ use Rattle.bounded.specs.Bounded.{sumBelow}
 use Rattle.bounded.proofs.Cases.{cases, order, at-end}
 use Rattle.bounded.proofs.Reflection.{of-true, is-false}
 use Rattle.model.specs.declared.Description.{Description}
-use Rattle.model.specs.Description.{between, isRelation, ofRelation, columnCount, rowCount, foreignOf, refersOf, sizeOf, startOf, totalOf}
-use Rattle.model.proofs.Sound.{relation-r}
-use Rattle.describe.specs.Facts.{Bounded}
+use Rattle.model.specs.Description.{between, isRelation, ofRelation, columnCount, rowCount, foreignOf, refersOf, sizeOf, startOf, totalOf, sound}
+use Rattle.model.proofs.Sound.{relation-r, sound-says, relation-of}
 
 -- what is 0 from n on adds nothing
 sum-behind : (f : ℕ → ℕ) (n m : ℕ) → n ≤ m → ((k : ℕ) → n ≤ k → f k ≡ 0) → sumBelow m f ≡ sumBelow n f
@@ -73,9 +72,13 @@ module _ (d : Description) where
   pub size-absent : (q : ℕ) → ((0 < q) × (q ≤ d .relations) → ⊥) → 0 ≡ sizeOf d q
   size-absent q n = sym (absent q (is-false (relation-r d q) n))
 
-  pub size-le : Bounded d → (q : ℕ) → sizeOf d q ≤ 8192
+  pub size-le : sound d ≡ true → (q : ℕ) → sizeOf d q ≤ 8192
   unfolding sizeOf
-  size-le B q = mul-le-mul (mul-le-mul (B .levels) (B .rows q)) (B .cols q)
+  size-le e q =
+      let s = sound-says d e in
+      cases (isRelation d q)
+      (λ t. let R = relation-of d s q t in mul-le-mul (mul-le-mul (s .few-levels) (R .few)) (R .narrow))
+      (λ t. rw (absent q t) zero-le)
 
   -- ---- how many cells there are
 

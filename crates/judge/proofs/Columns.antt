@@ -16,12 +16,12 @@ use Rattle.bounded.proofs.Cases.{cases, clash, and-left, and-right, and-false-r
 use Rattle.bounded.proofs.First.{first-holds, first-before}
 use Rattle.model.specs.declared.Description.{Description}
 use Rattle.model.specs.Description as Described
-use Rattle.model.specs.Description.{over, columnCount, isColumn, highOf, lowOf, inRange}
+use Rattle.model.specs.Description.{over, columnCount, isColumn, highOf, lowOf, inRange, sound}
 use Rattle.model.specs.Tables.{Cell, Row, Tables, cell, nocell, same, place, at, lends}
 use Rattle.model.specs.Judge.{fits, cellRight}
 use Rattle.model.specs.Buffers.{rowsIn}
+use Rattle.model.proofs.Sound.{sound-says, over-levels}
 use Rattle.keys.specs.declared.areas.Area.{Area}
-use Rattle.describe.specs.Facts.{Leveled}
 use Rattle.keys.specs.Facts.{hasKey, hasBit, Ranges, Orders}
 use Rattle.judge.specs.Facts.{Ready, InRow, Fitting, Between}
 use Rattle.keys.proofs.Sets.{bit-and}
@@ -32,13 +32,13 @@ use Rattle.judge.proofs.Places.{spot, place-found, at-found}
 pub between-of : (d : Description) (bs us : List ℕ) (l c : ℕ) → Orders d bs us → l < 16 → c < 16 → Between d l c (bitAnd (getD bs l 0) (getD us c 0))
 between-of d bs us l c G h k = record { right = λ e. bit-and (getD bs l 0) (getD us c 0) e ∙ rw (G .below l e h, G .above e c k) }
 
-fits-within : (d : Description) → Leveled d → (r l k e c : ℕ) → fits d r l k e c ≡ true → c < d .levels
+fits-within : (d : Description) → sound d ≡ true → (r l k e c : ℕ) → fits d r l k e c ≡ true → c < d .levels
 unfolding fits
-fits-within d L r l k e c t =
-    L .within l c (and-left (over d l c) (over d c e) (and-right (inRange d r k c) (over d l c && over d c e) t)) .1
+fits-within d s r l k e c t =
+    over-levels d (sound-says d s) l c (and-left (over d l c) (over d c e) (and-right (inRange d r k c) (over d l c && over d c e) t)) .1
 
-pub fits-out : (d : Description) → Leveled d → (r l k e c : ℕ) → d .levels ≤ c → fits d r l k e c ≡ false
-fits-out d L r l k e c h = cases (fits d r l k e c) (λ t. absurd (omega (arith, fits-within d L r l k e c t))) (λ t. t)
+pub fits-out : (d : Description) → sound d ≡ true → (r l k e c : ℕ) → d .levels ≤ c → fits d r l k e c ≡ false
+fits-out d s r l k e c h = cases (fits d r l k e c) (λ t. absurd (omega (arith, fits-within d s r l k e c t))) (λ t. t)
 
 -- the classes in range of column k + 1, and those that a row may have besides
 pub fitting : (d : Description) (vs cs ks ws : List ℕ) (a : Area) (l c w k q : ℕ) → Ready d vs cs ks a → Ranges d 81 ws → Between d l c w → k < a.cols → q ≡ 9 * a.relation + 1
@@ -62,10 +62,10 @@ module _ (d : Description) (T : Tables) (r l : ℕ) (R : Row) (k v c key kc : �
   unfolding same
   some-cell n = and-false-right (eqb v 0) (eqb c 255) (ne-eqb c 255 n)
 
-  pub cell-null : Leveled d → c ≡ 255 → eqb v 0 ≡ cellRight d T r l R k
+  pub cell-null : sound d ≡ true → c ≡ 255 → eqb v 0 ≡ cellRight d T r l R k
   unfolding same
-  cell-null L e =
-      let f = fits-out d L r l k kc c (omega (arith, L .few)) in
+  cell-null s e =
+      let f = fits-out d s r l k kc c (omega (arith, sound-says d s .few-levels)) in
       sym (cell-as ∙ rw f (cases (eqb v 0) (λ t. rw (t, eq-eqb c 255 e)) (λ t. rw t)))
 
   pub cell-unfit : c ≢ 255 → fits d r l k kc c ≡ false → false ≡ cellRight d T r l R k
@@ -113,14 +113,14 @@ module _ (d : Description) (vs cs ks : List ℕ) (a : Area) (R : Ready d vs cs k
     key-cell = rw (I .key, I .class, I .stands) (simp add-zero at (R .cells l i 0 (I .level) (I .below) (R .keyed)))
 
     pub at-null : getD cs (row + k) 0 ≡ 255 → eqb (getD vs (row + k) 0) 0 ≡ cellRight d T a.relation l (T a.relation l i) (suc k)
-    at-null e = cell-null d T a.relation l (T a.relation l i) (suc k) _ _ key kc cell-is key-cell (R .levels) e
+    at-null e = cell-null d T a.relation l (T a.relation l i) (suc k) _ _ key kc cell-is key-cell (R .sound-is) e
 
     module _ (w : ℕ) (F : Fitting d a.relation l (suc k) kc w) {b : Bool} (q : b ≡ hasBit w (getD cs (row + k) 0)) where
       pub at-unfit : getD cs (row + k) 0 ≢ 255 → b ≡ false → false ≡ cellRight d T a.relation l (T a.relation l i) (suc k)
       at-unfit n t = cell-unfit d T a.relation l (T a.relation l i) (suc k) _ _ key kc cell-is key-cell n (sym (F .right _) ∙ sym q ∙ t)
 
       pub at-level : b ≡ true → getD cs (row + k) 0 < d .levels
-      at-level t = fits-within d (R .levels) a.relation l (suc k) kc (getD cs (row + k) 0) (sym (F .right _) ∙ sym q ∙ t)
+      at-level t = fits-within d (R .sound-is) a.relation l (suc k) kc (getD cs (row + k) 0) (sym (F .right _) ∙ sym q ∙ t)
 
       pub at-own : getD cs (row + k) 0 ≢ 255 → b ≡ true → getD cs (row + k) 0 ≡ l → true ≡ cellRight d T a.relation l (T a.relation l i) (suc k)
       at-own n t e =

@@ -19,6 +19,7 @@ use Rattle.model.specs.Tables.{Cell, Tables, cell, nocell, norow, same, used, e
 use Rattle.model.specs.Buffers.{inside, rowsIn}
 use Rattle.model.specs.Judge.{cellRight, referenceRight, rowRight}
 use Rattle.model.proofs.Border.{rows-outside}
+use Rattle.model.proofs.Sound.{sound-says}
 use Rattle.keys.specs.declared.areas.Area.{Area}
 use Rattle.judge.specs.Facts.{namesRight, rightRow, Ready, InRow, Refers}
 use Rattle.judge.proofs.Places.{key-is, at-found, at-none, key-class, key-value}
@@ -87,8 +88,8 @@ module _ (d : Description) (vs cs ks : List ℕ) (a : Area) (R : Ready d vs cs k
         let x : T a.relation l i 1 ≡ cell key kc = key-cell d vs cs ks a R l i row key kc 0 I (R .keyed) in
         let e : cellRight d T a.relation l (T a.relation l i) 1 ≡ false =
         cases (eqb kc 255)
-        (λ t. sym (cell-null d T a.relation l (T a.relation l i) 1 key kc key kc x x (R .levels) (eqb-true kc 255 t)) ∙ ne-eqb key 0 (I .real))
-        (λ t. sym (cell-unfit d T a.relation l (T a.relation l i) 1 key kc key kc x x (eqb-false kc 255 t) (fits-out d (R .levels) a.relation l 1 kc kc (omega (arith, R .levels .few))))) in
+        (λ t. sym (cell-null d T a.relation l (T a.relation l i) 1 key kc key kc x x (R .sound-is) (eqb-true kc 255 t)) ∙ ne-eqb key 0 (I .real))
+        (λ t. sym (cell-unfit d T a.relation l (T a.relation l i) 1 key kc key kc x x (eqb-false kc 255 t) (fits-out d (R .sound-is) a.relation l 1 kc kc (omega (arith, sound-says d (R .sound-is) .few-levels))))) in
         rw (← (R .cols), all-fails a.cols 0 (λ k. cellRight d T a.relation l (T a.relation l i) (suc k)) {b = false} (sym e) refl (R .keyed))
 
     pub row-cells : {b : Bool} → b ≡ allBelow a.cols (λ k. cellRight d T a.relation l (T a.relation l i) (suc k)) → b ≡ false → false ≡ rightRow d T a.relation l (T a.relation l i)

@@ -23,8 +23,8 @@ use Rattle.model.specs.Buffers.{holding, fitting, positionOf, rowsIn, stateOf}
 use Rattle.model.specs.Ledger.{lending, lentFits, pagesOf}
 use Rattle.model.specs.Judge.{rowRight, legal, legalPages, judge}
 use Rattle.model.proofs.Border.{Inside, inside-shown}
+use Rattle.model.proofs.Sound.{Sound, sound-says, foreign-column, refers-lower}
 use Rattle.keys.specs.declared.areas.Area.{Area}
-use Rattle.describe.specs.Facts.{Sane}
 use Rattle.keys.specs.Facts.{hasKey, firstOf, Starting, areaOf, Keyed, distinctKeys}
 use Rattle.judge.specs.Facts.{relationRight, tablesRight, Ready, Refers, Laid}
 use Rattle.describe.proofs.Sizes.{refers-of}
@@ -47,7 +47,7 @@ module _ (d : Description) (vs cs : List ℕ) (r : ℕ) (h : r < d .relations) w
       let inner : Inside d (suc r) l i (suc k) = record { relation = omega arith; level = hl; row = hi; least = omega arith; column = hk } in
       rw (inside-shown d (suc r) l i (suc k) inner, position-is l i k)
 
-  module _ (ks : List ℕ) (S : Sane d) (K : Keyed d vs (d .relations) ks) where
+  module _ (ks : List ℕ) (s : sound d ≡ true) (K : Keyed d vs (d .relations) ks) where
     pub key-of : (l i : ℕ) → l < d .levels → i < rowCount d (suc r) → getD ks (startOf d (suc r) + l * rowCount d (suc r) + i) 0 ≡ rowsIn d vs cs (suc r) l i 1 .value
     key-of l i hl hi =
         let j = l * rowCount d (suc r) + i in
@@ -55,7 +55,7 @@ module _ (d : Description) (vs cs : List ℕ) (r : ℕ) (h : r < d .relations) w
         let f : j < d .levels * rowCount d (suc r) = omega (arith, mul-le-mul-right (rowCount d (suc r)) hl) in
         ap (λ (p : ℕ). getD ks p 0) e
         ∙ K .right r j h f
-        ∙ sym (ap (λ (x : Cell). x .value) (simp add-zero at (cells-of l i 0 hl hi (S .keyed r h))))
+        ∙ sym (ap (λ (x : Cell). x .value) (simp add-zero at (cells-of l i 0 hl hi (sound-says d s .relations r h .keyed))))
 
 -- ---- a key that stands twice
 
@@ -79,7 +79,7 @@ module _ (d : Description) (T : Tables) (ks : List ℕ) (r l from : ℕ) (named 
       all-of (rowCount d r) (firstOf ks from)
       (λ i h. cases (firstOf ks from i) (λ u. u) (λ u. clash (all-at (rowCount d r) (λ i. rowRight d T r l i) t i h) (twice-row i h u)))
 
-module _ (d : Description) (vs cs ks : List ℕ) (S : Sane d) (K : Keyed d vs (d .relations) ks) where
+module _ (d : Description) (vs cs ks : List ℕ) (s : sound d ≡ true) (K : Keyed d vs (d .relations) ks) where
   abbrev T : Tables
   T = rowsIn d vs cs
 
@@ -88,7 +88,7 @@ module _ (d : Description) (vs cs ks : List ℕ) (S : Sane d) (K : Keyed d vs (d
   distinct-right t =
       all-of (d .relations) _
       (λ r h. all-of (d .levels) _
-      (λ l g. first-level d T ks (suc r) l (startOf d (suc r) + l * rowCount d (suc r)) (λ i f. key-of d vs cs r h ks S K l i g f)
+      (λ l g. first-level d T ks (suc r) l (startOf d (suc r) + l * rowCount d (suc r)) (λ i f. key-of d vs cs r h ks s K l i g f)
       (all-at (d .levels) _ (all-at (d .relations) _ t r h) l g)))
 
   pub tables-twice : {b : Bool} → b ≡ distinctKeys d ks → b ≡ false → false ≡ tablesRight d T
@@ -96,8 +96,11 @@ module _ (d : Description) (vs cs ks : List ℕ) (S : Sane d) (K : Keyed d vs (d
 
 -- ---- what is known of every relation
 
-module _ (d : Description) (vs cs ks ss : List ℕ) (S : Sane d) (P : Starting d ss) (K : Keyed d vs (d .relations) ks)
+module _ (d : Description) (vs cs ks ss : List ℕ) (s : sound d ≡ true) (P : Starting d ss) (K : Keyed d vs (d .relations) ks)
     (ev : length vs ≡ totalOf d) (ec : length cs ≡ totalOf d) (D : distinctKeys d ks ≡ true) where
+  abbrev S : Sound d
+  S = sound-says d s
+
   distinct-level : (r l : ℕ) → r < d .relations → l < d .levels → allBelow (rowCount d (suc r)) (firstOf ks (startOf d (suc r) + l * rowCount d (suc r))) ≡ true
   unfolding distinctKeys
   distinct-level r l h g = all-at (d .levels) _ (all-at (d .relations) _ D r h) l g
@@ -105,21 +108,21 @@ module _ (d : Description) (vs cs ks ss : List ℕ) (S : Sane d) (P : Starting d
   ready : (r : ℕ) → r < d .relations → (a : Area) → Standing d r a → Ready d vs cs ks a
   ready r h a G =
       record {
-        levels = S .levels;
-        named = rw (G .relation) (omega (arith, S .bounded .relations));
+        sound-is = s;
+        named = rw (G .relation) (omega (arith, S .few-relations));
         depth = G .levels;
         rows = rw (G .relation) (G .rows);
         cols = rw (G .relation) (G .cols);
-        few = rw (G .rows) (S .bounded .rows (suc r));
-        wide = rw (G .cols) (S .bounded .cols (suc r));
-        keyed = rw (G .cols) (S .keyed r h);
+        few = rw (G .rows) (S .relations r h .few);
+        wide = rw (G .cols) (S .relations r h .narrow);
+        keyed = rw (G .cols) (S .relations r h .keyed);
         size = omega (arith, S .total);
         long = K .long;
         values = rw (G .start, G .rows, G .cols, ev) (cells-room d r h);
         classes = rw (G .start, G .rows, G .cols, ec) (cells-room d r h);
-        keys = rw (G .start, G .rows) (keys-room d S r h);
+        keys = rw (G .start, G .rows) (keys-room d s r h);
         cells = λ l i k hl hi hk. rw (G .relation, G .start, G .rows, G .cols) (cells-of d vs cs r h l i k hl (rw (G .rows) at hi) (rw (G .cols) at hk));
-        key = λ l i hl hi. rw (G .relation, G .start, G .rows) (key-of d vs cs r h ks S K l i hl (rw (G .rows) at hi));
+        key = λ l i hl hi. rw (G .relation, G .start, G .rows) (key-of d vs cs r h ks s K l i hl (rw (G .rows) at hi));
         once = λ l v hl z. rw (G .start, G .rows) (once-of ks (startOf d (suc r) + l * rowCount d (suc r)) (rowCount d (suc r)) v (distinct-level r l h hl) z);
       }
 
@@ -130,8 +133,7 @@ module _ (d : Description) (vs cs ks ss : List ℕ) (S : Sane d) (P : Starting d
   pub laid-of : Laid d vs cs ks ss
   laid-of =
       record {
-        levels = S .bounded .levels;
-        relations = S .bounded .relations;
+        sound-is = s;
         ready = λ r h. ready r h (areaOf d ss (suc r)) (standing d ss P r h);
         refers = λ r h.
             let G = standing d ss P r h in
@@ -139,17 +141,17 @@ module _ (d : Description) (vs cs ks ss : List ℕ) (S : Sane d) (P : Starting d
             record {
               foreign = G .foreign;
               refers = e;
-              column = rw (G .foreign, G .cols) (S .column (suc r));
-              ready = λ n. target (getD (d .refers) (suc r) 0) (rw e (S .named (suc r) (λ z. n (G .foreign ∙ z)))) (rw e (lower r h));
+              column = rw (G .foreign, G .cols) (foreign-column d r (S .relations r h));
+              ready = λ n. target (getD (d .refers) (suc r) 0) (rw e (S .relations r h .referring (λ z. n (G .foreign ∙ z)) .some)) (rw e (lower r h));
             };
         named = λ r h. let e = refers-of d (suc r) (omega arith) h in rw e (lower-eight r h);
       }
     where
       lower : (r : ℕ) → r < d .relations → refersOf d (suc r) ≤ d .relations
-      lower r h = omega (arith, S .lower (suc r))
+      lower r h = omega (arith, refers-lower d r (S .relations r h))
 
       lower-eight : (r : ℕ) → r < d .relations → refersOf d (suc r) ≤ 8
-      lower-eight r h = omega (arith, lower r h, S .bounded .relations)
+      lower-eight r h = omega (arith, lower r h, S .few-relations)
 
 -- ---- relation r + 1, as code has it
 

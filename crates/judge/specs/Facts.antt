@@ -1,7 +1,7 @@
 -- What the judge's inner functions know of the numbers and slices that they are given.
 -- Assumes nothing: these are definitions and statements.
 use mathlib.Core.Path.{_≡_}
-use mathlib.Core.Bool.{Bool, _&&_, _||_}
+use mathlib.Core.Bool.{Bool, true, _&&_, _||_}
 use mathlib.Core.Logic.{_≢_, _⊎_}
 use mathlib.Core.List.{List}
 use Prim.Native.Nat.{ℕ, suc, _+_, _*_, _≤_, _<_}
@@ -10,11 +10,10 @@ use lib.ListN.{length, getD}
 use Rattle.bounded.specs.Tests.{if_then_else_}
 use Rattle.bounded.specs.Bounded.{allBelow}
 use Rattle.model.specs.declared.Description.{Description}
-use Rattle.model.specs.Description.{over, columnCount, rowCount, foreignOf, refersOf}
+use Rattle.model.specs.Description.{over, columnCount, rowCount, foreignOf, refersOf, sound}
 use Rattle.model.specs.Tables.{Cell, Row, Tables, cell, same, place, at}
 use Rattle.model.specs.Buffers.{rowsIn}
 use Rattle.model.specs.Judge.{fits, cellRight, referenceRight, rowRight}
-use Rattle.describe.specs.Facts.{Leveled}
 use Rattle.keys.specs.declared.areas.Area.{Area}
 use Rattle.keys.specs.Facts.{Once, hasBit, areaOf}
 
@@ -49,7 +48,7 @@ pub record Between (d : Description) (l c w : ℕ) : Type 0 where
 
 -- What is known of a relation: where its cells and its keys stand, and that no key stands twice at a level.
 pub record Ready (d : Description) (vs cs ks : List ℕ) (a : Area) : Type 0 where
-  pub levels : Leveled d
+  pub sound-is : sound d ≡ true
   pub named : a .relation ≤ 8
   pub depth : a .levels ≡ d .levels
   pub rows : a .rows ≡ rowCount d (a .relation)
@@ -77,8 +76,7 @@ pub record Refers (d : Description) (vs cs ks : List ℕ) (a b : Area) : Type 0 
 
 -- what is known of every relation once it is known that no key stands twice
 pub record Laid (d : Description) (vs cs ks ss : List ℕ) : Type 0 where
-  pub levels : d .levels ≤ 16
-  pub relations : d .relations ≤ 8
+  pub sound-is : sound d ≡ true
   pub ready : (r : ℕ) → r < d .relations → Ready d vs cs ks (areaOf d ss (suc r))
   pub refers : (r : ℕ) → r < d .relations → Refers d vs cs ks (areaOf d ss (suc r)) (areaOf d ss (getD (d .refers) (suc r) 0))
   pub named : (r : ℕ) → r < d .relations → getD (d .refers) (suc r) 0 ≤ 8
@@ -111,7 +109,19 @@ lenderOf T a v c l =
     let i = place (a .rows) (T (a .relation) l) v in
     if ltb i (a .rows) && eqb (T (a .relation) l i 1 .class) c then a .start + (l * a .rows + i) * a .cols else 65535
 
+-- what is asked of column k + 1 of row i at level l, where the tables stand in two lists
+abbrev pub rightCell : Description → List ℕ → List ℕ → Area → ℕ → ℕ → ℕ → Bool
+rightCell d vs cs a l i k = cellRight d (rowsIn d vs cs) (a .relation) l (rowsIn d vs cs (a .relation) l i) (suc k)
+
+-- and of its reference
+abbrev pub rightReference : Description → List ℕ → List ℕ → Area → ℕ → ℕ → Bool
+rightReference d vs cs a l i = referenceRight d (rowsIn d vs cs) (a .relation) l (rowsIn d vs cs (a .relation) l i (foreignOf d (a .relation)))
+
 -- what a row's cache holds for each level: 65534 or the entity's row there
 pub record Known (d : Description) (T : Tables) (a : Area) (v c : ℕ) (cache : List ℕ) : Type 0 where
   pub size : length cache ≡ 16
   pub right : (e : ℕ) → e < d .levels → (getD cache e 0 ≡ 65534) ⊎ (getD cache e 0 ≡ lenderOf T a v c e)
+
+-- r is where the row of entity (v, c) at level l starts, and the cache is right
+abbrev pub LooksUp : Description → List ℕ → List ℕ → Area → ℕ → ℕ → ℕ → List ℕ → ℕ → Type 0
+LooksUp d vs cs a v c l cache r = (r ≡ lenderOf (rowsIn d vs cs) a v c l) × Known d (rowsIn d vs cs) a v c cache

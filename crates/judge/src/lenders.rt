@@ -8,10 +8,9 @@ ghost use mathlib.Core.Path.{_≡_};
 ghost use Prim.Native.Nat.{suc, _<_, _≤_};
 ghost use Rattle.bounded.specs.Bounded.{allBelow};
 ghost use Rattle.model.specs.Tables.{cell, nocell, same, at as rowAt, lends, emptyRow};
-ghost use Rattle.model.specs.Judge.{cellRight};
 ghost use Rattle.model.specs.Buffers.{rowsIn};
 ghost use Rattle.keys.specs.Facts.{Ranges};
-ghost use Rattle.judge.specs.Facts.{Ready, Asked, lenderOf, Known, InRow, Spot, Fitting, Between};
+ghost use Rattle.judge.specs.Facts.{Ready, Asked, lenderOf, rightCell, Known, LooksUp, InRow, Spot, Fitting, Between};
 
 // Where the row of entity (`key`, `kc`) at a level starts, or 65535.
 fn lender(
@@ -55,7 +54,7 @@ fn cached(
 ) -> usize
     requires { ⌜ Ready d (now values) (now classes) (now keys) area × Asked d level key ⌝ }
     requires { ⌜ Known d (rowsIn d (now values) (now classes)) area key kc (now cache) ⌝ }
-    ensures { λ r. ⌜ (r ≡ lenderOf (rowsIn d (now (values .entry)) (now (classes .entry))) area key kc level) × Known d (rowsIn d (now (values .entry)) (now (classes .entry))) area key kc (now (cache .exit)) ⌝ }
+    ensures { λ r. ⌜ LooksUp d (now (values .entry)) (now (classes .entry)) area key kc level (now (cache .exit)) r ⌝ }
 {
     let known = cache[level];
     if known != 65534 {
@@ -112,7 +111,7 @@ fn cell(
 ) -> bool
     requires { ⌜ Ready d (now values) (now classes) (now keys) area × InRow d (now values) (now classes) area level i row key kc × (k < area .cols) ⌝ }
     requires { ⌜ Fitting d (area .relation) level (suc k) kc word × Known d (rowsIn d (now values) (now classes)) area key kc (now cache) ⌝ }
-    ensures { λ r. ⌜ (r ≡ cellRight d (rowsIn d (now (values .entry)) (now (classes .entry))) (area .relation) level (rowsIn d (now (values .entry)) (now (classes .entry)) (area .relation) level i) (suc k)) × Known d (rowsIn d (now (values .entry)) (now (classes .entry))) area key kc (now (cache .exit)) ⌝ }
+    ensures { λ r. ⌜ (r ≡ rightCell d (now (values .entry)) (now (classes .entry)) area level i k) × Known d (rowsIn d (now (values .entry)) (now (classes .entry))) area key kc (now (cache .exit)) ⌝ }
 {
     let place = row + k;
     let c = classes[place];
@@ -148,7 +147,7 @@ pub(crate) fn cells(
 ) -> bool
     requires { ⌜ Ready d (now values) (now classes) (now keys) area × InRow d (now values) (now classes) area level i row key kc ⌝ }
     requires { ⌜ Ranges d 81 (now ranges) × Between d level kc word ⌝ }
-    ensures { λ r. ⌜ r ≡ allBelow (area .cols) (λ k. cellRight d (rowsIn d (now (values .entry)) (now (classes .entry))) (area .relation) level (rowsIn d (now (values .entry)) (now (classes .entry)) (area .relation) level i) (suc k)) ⌝ }
+    ensures { λ r. ⌜ r ≡ allBelow (area .cols) (λ k. rightCell d (now (values .entry)) (now (classes .entry)) area level i k) ⌝ }
 {
     let column = 9 * area.relation + 1;
     let cols = area.cols;

@@ -6,10 +6,8 @@ use model::Description;
 ghost use mathlib.Core.Path.{_≡_};
 ghost use Prim.Native.Nat.{_≤_};
 ghost use Rattle.model.specs.Tables.{cell, place};
-ghost use Rattle.model.specs.Description.{foreignOf};
-ghost use Rattle.model.specs.Judge.{referenceRight};
 ghost use Rattle.model.specs.Buffers.{rowsIn};
-ghost use Rattle.judge.specs.Facts.{namesRight, Ready, Asked, Spot, Refers};
+ghost use Rattle.judge.specs.Facts.{namesRight, rightReference, Ready, Asked, Spot, Refers};
 
 // The row with a key at a level, or the number of rows.
 fn sought(
@@ -81,7 +79,7 @@ pub(crate) fn reference(
 ) -> bool
     requires { ⌜ Ready d (now values) (now classes) (now keys) area × Spot d area level i row ⌝ }
     requires { ⌜ Refers d (now values) (now classes) (now keys) area target ⌝ }
-    ensures { λ r. ⌜ r ≡ referenceRight d (rowsIn d (now (values .entry)) (now (classes .entry))) (area .relation) level (rowsIn d (now (values .entry)) (now (classes .entry)) (area .relation) level i (foreignOf d (area .relation))) ⌝ }
+    ensures { λ r. ⌜ r ≡ rightReference d (now (values .entry)) (now (classes .entry)) area level i ⌝ }
 {
     let foreign = area.foreign;
     if foreign == 0 {

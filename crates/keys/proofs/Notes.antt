@@ -17,8 +17,7 @@ use Rattle.bounded.proofs.Cases.{cases, clash, split-last}
 use Rattle.bounded.proofs.First.{first-cong, first-holds, first-before}
 use Rattle.bounded.proofs.All.{all-cong}
 use Rattle.model.specs.declared.Description.{Description}
-use Rattle.model.specs.Description.{rowCount, startOf}
-use Rattle.describe.specs.Facts.{Sane}
+use Rattle.model.specs.Description.{rowCount, startOf, sound}
 use Rattle.keys.specs.Facts.{hasKey, Once, firstOf, slotOf, Noted, Kept, Keyed, distinctKeys}
 use Rattle.keys.proofs.Sought.{first-none}
 use Rattle.keys.proofs.Starts.{keys-room}
@@ -100,12 +99,12 @@ once-first ks from n v i O h t =
 
 -- ---- every relation
 
-module _ (d : Description) (S : Sane d) (xs ys : List ℕ) (K : Kept xs ys) where
+module _ (d : Description) (s : sound d ≡ true) (xs ys : List ℕ) (K : Kept xs ys) where
   pub keyed-kept : (vs : List ℕ) → Keyed d vs (d .relations) xs → Keyed d vs (d .relations) ys
   keyed-kept vs G =
       record {
         long = K .long ∙ G .long;
-        right = λ r j h g. K .same (startOf d (suc r) + j) (omega (arith, keys-room d S r h)) ∙ G .right r j h g;
+        right = λ r j h g. K .same (startOf d (suc r) + j) (omega (arith, keys-room d s r h)) ∙ G .right r j h g;
       }
 
   pub relation-kept : (r : ℕ) → r < d .relations
@@ -113,7 +112,7 @@ module _ (d : Description) (S : Sane d) (xs ys : List ℕ) (K : Kept xs ys) wher
       ≡ allBelow (d .levels) (λ l. allBelow (rowCount d (suc r)) (firstOf xs (startOf d (suc r) + l * rowCount d (suc r))))
   relation-kept r h =
       all-cong (d .levels) _ _
-      (λ l g. all-kept xs ys K (startOf d (suc r) + l * rowCount d (suc r)) (rowCount d (suc r)) (omega (arith, keys-room d S r h, mul-le-mul-right (rowCount d (suc r)) g)))
+      (λ l g. all-kept xs ys K (startOf d (suc r) + l * rowCount d (suc r)) (rowCount d (suc r)) (omega (arith, keys-room d s r h, mul-le-mul-right (rowCount d (suc r)) g)))
 
   pub distinct-kept : distinctKeys d ys ≡ distinctKeys d xs
   unfolding distinctKeys

@@ -19,8 +19,8 @@ use Rattle.bounded.proofs.Cases.{cases, and-false-right}
 use Rattle.level.specs.Order.{orderOf}
 use Rattle.level.proofs.Levels.{order-laws}
 use Rattle.model.specs.declared.Description.{Description}
-use Rattle.model.specs.Description.{over}
-use Rattle.describe.specs.Facts.{Leveled}
+use Rattle.model.specs.Description.{over, sound}
+use Rattle.model.proofs.Sound.{sound-says, over-levels}
 use Rattle.describe.proofs.Descriptions.{over-entry}
 use Rattle.keys.specs.Facts.{hasBit, With, Word, pairOf, Words, Orders, Within, Ranges}
 
@@ -172,31 +172,31 @@ ranges-one d x y p q =
 
 -- ---- the order
 
-over-low : (d : Description) → Leveled d → (a b : ℕ) → 16 ≤ b → over d a b ≡ false
-over-low d L a b h = cases (over d a b) (λ t. absurd (omega (arith, L .within a b t, L .few))) (λ t. t)
+over-low : (d : Description) → sound d ≡ true → (a b : ℕ) → 16 ≤ b → over d a b ≡ false
+over-low d s a b h = let S = sound-says d s in cases (over d a b) (λ t. absurd (omega (arith, over-levels d S a b t, S .few-levels))) (λ t. t)
 
-over-high : (d : Description) → Leveled d → (a b : ℕ) → 16 ≤ a → over d a b ≡ false
-over-high d L a b h = cases (over d a b) (λ t. absurd (omega (arith, L .within a b t, L .few))) (λ t. t)
+over-high : (d : Description) → sound d ≡ true → (a b : ℕ) → 16 ≤ a → over d a b ≡ false
+over-high d s a b h = let S = sound-says d s in cases (over d a b) (λ t. absurd (omega (arith, over-levels d S a b t, S .few-levels))) (λ t. t)
 
-module _ (d : Description) (order : List (List Bool)) (L : Leveled d) (e : order ≡ orderOf (d .labels) (d .levels)) where
+module _ (d : Description) (order : List (List Bool)) (s : sound d ≡ true) (e : order ≡ orderOf (d .labels) (d .levels)) where
   pub orders-of : (bs us : List ℕ) → Words order false 16 bs → Words order true 16 us → Orders d bs us
   unfolding pairOf
   orders-of bs us B U =
       record {
         long = B .long;
         wide = U .long;
-        below = λ a b h. B .right a h .right b ∙ cases (ltb b 16) (λ t. rw t (over-entry d order e (L .few) a b)) (λ t. rw t (sym (over-low d L a b (ltb-false b 16 t))));
-        above = λ a b h. U .right b h .right a ∙ cases (ltb a 16) (λ t. rw t (over-entry d order e (L .few) a b)) (λ t. rw t (sym (over-high d L a b (ltb-false a 16 t))));
+        below = λ a b h. B .right a h .right b ∙ cases (ltb b 16) (λ t. rw t (over-entry d order e (sound-says d s .few-levels) a b)) (λ t. rw t (sym (over-low d s a b (ltb-false b 16 t))));
+        above = λ a b h. U .right b h .right a ∙ cases (ltb a 16) (λ t. rw t (over-entry d order e (sound-says d s .few-levels) a b)) (λ t. rw t (sym (over-high d s a b (ltb-false a 16 t))));
       }
 
 -- ---- ranges
 
-module _ (d : Description) (low high : ℕ) (L : Leveled d) where
+module _ (d : Description) (low high : ℕ) (s : sound d ≡ true) where
   pub range-low : 16 ≤ low → Within d low high 0
-  range-low h = record { right = λ c. bit-zero c ∙ sym (and-false-right (over d high c) (over d c low) (over-low d L c low h)) }
+  range-low h = record { right = λ c. bit-zero c ∙ sym (and-false-right (over d high c) (over d c low) (over-low d s c low h)) }
 
   pub range-high : 16 ≤ high → Within d low high 0
-  range-high h = record { right = λ c. bit-zero c ∙ rw (over-high d L high c h) }
+  range-high h = record { right = λ c. bit-zero c ∙ rw (over-high d s high c h) }
 
   pub range-of : (bs us : List ℕ) → Orders d bs us → low < 16 → high < 16 → Within d low high (bitAnd (getD bs high 0) (getD us low 0))
   range-of bs us G h k = record { right = λ c. bit-and (getD bs high 0) (getD us low 0) c ∙ rw (G .below high c k, G .above c low h) }

@@ -1,7 +1,7 @@
 -- Where the cells of each relation stand, and the keys that are gathered from them.
 -- Assumes nothing.
 use mathlib.Core.Path.{_≡_, refl, sym, _∙_}
-use mathlib.Core.Bool.{Bool}
+use mathlib.Core.Bool.{Bool, true}
 use mathlib.Core.List.{List}
 use Prim.Native.Nat.{ℕ, zero, suc, _+_, _*_, _≤_, _<_}
 use native.Mathlib.Nat.{le-mul-of-pos-right}
@@ -15,10 +15,10 @@ use Rattle.bounded.specs.Bounded.{allBelow, sumBelow}
 use Rattle.bounded.proofs.Cases.{cases, split-last}
 use Rattle.bounded.proofs.Sum.{sum-mono}
 use Rattle.model.specs.declared.Description.{Description}
-use Rattle.model.specs.Description.{columnCount, rowCount, foreignOf, sizeOf, startOf, totalOf}
+use Rattle.model.specs.Description.{columnCount, rowCount, foreignOf, sizeOf, startOf, totalOf, sound}
+use Rattle.model.proofs.Sound.{sound-says}
 use Rattle.describe.proofs.Sizes.{row-count, column-count, foreign-of}
 use Rattle.keys.specs.declared.areas.Area.{Area}
-use Rattle.describe.specs.Facts.{Sane}
 use Rattle.keys.specs.Facts.{firstOf, Starting, areaOf, Gathered, Keyed}
 
 pub noughts : (n k : ℕ) → getD {A = ℕ} (replicate n 0) k 0 ≡ 0
@@ -51,12 +51,12 @@ module _ (d : Description) where
   -- ---- keys
 
   -- there are no more keys than cells
-  keys-few : Sane d → (r : ℕ) → r < d .relations → d .levels * rowCount d (suc r) ≤ sizeOf d (suc r)
+  keys-few : sound d ≡ true → (r : ℕ) → r < d .relations → d .levels * rowCount d (suc r) ≤ sizeOf d (suc r)
   unfolding sizeOf
-  keys-few S r h = le-mul-of-pos-right (d .levels * rowCount d (suc r)) (S .keyed r h)
+  keys-few s r h = le-mul-of-pos-right (d .levels * rowCount d (suc r)) (sound-says d s .relations r h .keyed)
 
-  pub keys-room : Sane d → (r : ℕ) → r < d .relations → startOf d (suc r) + d .levels * rowCount d (suc r) ≤ 8192
-  keys-room S r h = omega (arith, keys-few S r h, start-room (suc r) h, S .total)
+  pub keys-room : sound d ≡ true → (r : ℕ) → r < d .relations → startOf d (suc r) + d .levels * rowCount d (suc r) ≤ 8192
+  keys-room s r h = omega (arith, keys-few s r h, start-room (suc r) h, sound-says d s .total)
 
   pub cells-room : (r : ℕ) → r < d .relations → startOf d (suc r) + d .levels * rowCount d (suc r) * columnCount d (suc r) ≤ totalOf d
   unfolding sizeOf
@@ -65,14 +65,14 @@ module _ (d : Description) where
   pub keyed-none : (vs ks : List ℕ) → length ks ≡ 16384 → Keyed d vs 0 ks
   keyed-none vs ks e = record { long = e; right = λ r j h. absurd (omega arith) }
 
-  pub keyed-more : Sane d → (vs ks xs : List ℕ) (m : ℕ) → m < d .relations → Keyed d vs m ks
+  pub keyed-more : sound d ≡ true → (vs ks xs : List ℕ) (m : ℕ) → m < d .relations → Keyed d vs m ks
       → Gathered vs ks xs (startOf d (suc m)) (d .levels * rowCount d (suc m)) (columnCount d (suc m)) → Keyed d vs (m + 1) xs
-  keyed-more S vs ks xs m h K G =
+  keyed-more s vs ks xs m h K G =
       record {
         long = G .long ∙ K .long;
         right = λ r j g f. let q : r < suc m = omega arith in
             split-last q
-            (λ l. G .kept (startOf d (suc r) + j) (omega (arith, keys-few S r (omega arith), start-before (suc r) (suc m) (omega arith))) ∙ K .right r j l f)
+            (λ l. G .kept (startOf d (suc r) + j) (omega (arith, keys-few s r (omega arith), start-before (suc r) (suc m) (omega arith))) ∙ K .right r j l f)
             (λ e. rw e (G .put j (rw e at f)));
       }
 
@@ -102,17 +102,17 @@ module _ (d : Description) (ss : List ℕ) (P : Starting d ss) (r : ℕ) (h : r 
   pub standing-at : (a : Area) → a ≡ areaOf d ss (r + 1) → Standing d r a
   standing-at a e = rw (e, add-one r) standing
 
-module _ (d : Description) (S : Sane d) (r : ℕ) (h : r < d .relations) (a : Area) (G : Standing d r a) where
+module _ (d : Description) (s : sound d ≡ true) (r : ℕ) (h : r < d .relations) (a : Area) (G : Standing d r a) where
   pub fill-room : (vs ks : List ℕ) → length vs ≡ totalOf d → length ks ≡ 16384
       → ((a.start + a.levels * a.rows ≤ length ks) × (a.start + a.levels * a.rows * a.cols ≤ length vs) × (0 < a.cols)) × ((length ks ≡ 16384) × (length vs ≤ 8192))
   fill-room vs ks x y =
-      rw (G .start, G .rows, G .cols, G .levels, x, y) ((omega (arith, keys-room d S r h), cells-room d r h, S .keyed r h), (refl, S .total))
+      rw (G .start, G .rows, G .cols, G .levels, x, y) ((omega (arith, keys-room d s r h), cells-room d r h, sound-says d s .relations r h .keyed), (refl, sound-says d s .total))
 
   pub fill-more : (vs ks xs : List ℕ) → Keyed d vs r ks → Gathered vs ks xs a.start (a.levels * a.rows) a.cols → Keyed d vs (r + 1) xs
-  fill-more vs ks xs K F = keyed-more d S vs ks xs r h K (rw (← (G .start), ← (G .rows), ← (G .cols), ← (G .levels)) F)
+  fill-more vs ks xs K F = keyed-more d s vs ks xs r h K (rw (← (G .start), ← (G .rows), ← (G .cols), ← (G .levels)) F)
 
   pub levels-room : (a.start + a.levels * a.rows ≤ 8192) × (a.rows ≤ 64) × (a.levels ≤ 16)
-  levels-room = rw (G .start, G .rows, G .levels) (keys-room d S r h, S .bounded .rows (suc r), S .bounded .levels)
+  levels-room = rw (G .start, G .rows, G .levels) (keys-room d s r h, sound-says d s .relations r h .few, sound-says d s .few-levels)
 
   pub distinct-at : (ks : List ℕ) {b : Bool} → b ≡ allBelow a.levels (λ m. allBelow a.rows (firstOf ks (a.start + m * a.rows)))
       → b ≡ allBelow (d .levels) (λ m. allBelow (rowCount d (suc r)) (firstOf ks (startOf d (suc r) + m * rowCount d (suc r))))

@@ -3,8 +3,9 @@ use describe::size;
 use describe::wide;
 use model::Description;
 ghost use mathlib.Core.Path.{_≡_};
+ghost use mathlib.Core.Bool.{true};
 ghost use Prim.Native.Nat.{_+_, _*_, _<_, _≤_};
-ghost use Rattle.describe.specs.Facts.{Bounded};
+ghost use Rattle.model.specs.Description.{sound};
 ghost use Rattle.keys.specs.Facts.{Starting, areaOf};
 
 // A relation: its number, where its cells and its keys start, how many levels there are, how many rows each of them has and how many columns, and
@@ -28,7 +29,7 @@ pub fn at(area: Area, level: usize, i: usize) -> usize
 
 // Where the cells of each relation start.
 pub fn starts(d: Description) -> [usize; 9]
-    requires { ⌜ Bounded d ⌝ }
+    requires { ⌜ sound d ≡ true ⌝ }
     ensures { λ r. ⌜ Starting d r ⌝ }
 {
     let n = wide(d.relations);

@@ -13,8 +13,7 @@ ghost use lib.Dec.{eqb};
 ghost use lib.ListN.{length};
 ghost use Rattle.bounded.specs.Tests.{if_then_else_};
 ghost use Rattle.bounded.specs.Bounded.{firstBelow, allBelow};
-ghost use Rattle.model.specs.Description.{totalOf};
-ghost use Rattle.describe.specs.Facts.{Sane};
+ghost use Rattle.model.specs.Description.{totalOf, sound};
 ghost use Rattle.keys.specs.Facts.{hasKey, Once, firstOf, slotOf, Noted, Kept, Gathered, Starting, Keyed, distinctKeys};
 
 // `i` where `a` is `b`, else 0.
@@ -135,7 +134,7 @@ fn gather(values: &[u32], keys: &mut [u32], start: usize, n: usize, cols: usize)
 
 // The keys of every relation, each from where the relation's cells start in `values`.
 pub fn fill(values: &[u32], keys: &mut [u32], d: Description, starts: [usize; 9])
-    requires { ⌜ Sane d × Starting d starts ⌝ }
+    requires { ⌜ (sound d ≡ true) × Starting d starts ⌝ }
     requires { ⌜ (length (now values) ≡ totalOf d) × (length (now keys) ≡ 16384) ⌝ }
     ensures { λ _. ⌜ Keyed d (now (values .entry)) (d .relations) (now (keys .exit)) ⌝ }
 {
@@ -150,7 +149,7 @@ pub fn fill(values: &[u32], keys: &mut [u32], d: Description, starts: [usize; 9]
 
 // No key stands twice at a level of any relation.
 pub fn relations(keys: &mut [u32], d: Description, starts: [usize; 9]) -> bool
-    requires { ⌜ Sane d × Starting d starts ⌝ }
+    requires { ⌜ (sound d ≡ true) × Starting d starts ⌝ }
     requires { ⌜ length (now keys) ≡ 16384 ⌝ }
     ensures { λ r. ⌜ (r ≡ distinctKeys d (now (keys .entry))) × Kept (now (keys .entry)) (now (keys .exit)) ⌝ }
 {

@@ -2,8 +2,9 @@
 use describe::wide;
 use model::Description;
 ghost use mathlib.Core.Path.{_≡_};
+ghost use mathlib.Core.Bool.{true};
 ghost use Prim.Native.Nat.{_<_};
-ghost use Rattle.describe.specs.Facts.{Leveled};
+ghost use Rattle.model.specs.Description.{sound};
 ghost use Rattle.keys.specs.Facts.{hasBit, With, pairOf, Word, Words, Orders, Within, Ranges};
 
 // The class is in the set.
@@ -57,7 +58,7 @@ pub fn words(order: [[bool; 16]; 16], turned: bool) -> [u16; 16]
 
 // The levels from `low` to `high`.
 fn range(below: &[u16], above: &[u16], d: Description, low: usize, high: usize) -> u16
-    requires { ⌜ Leveled d × Orders d (now below) (now above) ⌝ }
+    requires { ⌜ (sound d ≡ true) × Orders d (now below) (now above) ⌝ }
     ensures { λ r. ⌜ Within d low high r ⌝ }
 {
     if 16 <= low {
@@ -71,7 +72,7 @@ fn range(below: &[u16], above: &[u16], d: Description, low: usize, high: usize) 
 
 // The range of each column.
 pub fn ranges(below: &[u16], above: &[u16], d: Description) -> [u16; 81]
-    requires { ⌜ Leveled d × Orders d (now below) (now above) ⌝ }
+    requires { ⌜ (sound d ≡ true) × Orders d (now below) (now above) ⌝ }
     ensures { λ r. ⌜ Ranges d 81 r ⌝ }
 {
     let mut ranges = [0u16; 81];

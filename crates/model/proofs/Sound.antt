@@ -1,14 +1,19 @@
--- What the tests of a description say: of relations and columns, and when it is sound.
+-- What the tests of a description say: of relations and columns, and when it is sound. This is the one place where soundness is taken apart; a
+-- test more of `sound` is a field of `Sound` and a line of `sound-r`.
 -- Assumes nothing.
-use Prim.Native.Nat.{ℕ, zero, suc, _<_, _≤_}
-use mathlib.Core.Bool.{true}
+use Prim.Native.Nat.{ℕ, zero, suc, _<_, _≤_, zero-le}
+use mathlib.Core.Bool.{Bool, true, _&&_}
 use mathlib.Core.List.{List}
-use mathlib.Core.Logic.{_≢_}
-use mathlib.Core.Path.{_≡_}
+use mathlib.Core.Logic.{_≢_, ⊎-elim}
+use mathlib.Core.Path.{_≡_, sym}
 use native.Mathlib.Nat.{lt-irrefl}
+use native.Mathlib.Omega.{arith}
+use lib.Dec.{ltb}
 use Rattle.bounded.specs.Tests.{Reflects}
-use Rattle.bounded.proofs.Cases.{cases}
-use Rattle.bounded.proofs.Reflection.{of-true, bool-r, not-r, and-r, if-r, all-r, eqb-r, ltb-r, leb-r, reflects-as}
+use Rattle.bounded.proofs.Cases.{cases, order, and-left, and-right}
+use Rattle.bounded.proofs.Reflection.{is-true, of-true, decide, bool-r, not-r, and-r, if-r, all-r, eqb-r, ltb-r, leb-r, reflects-as}
+use Rattle.level.specs.Laws.{Distinct, LevelLaws}
+use Rattle.level.proofs.Levels.{level-laws}
 use Rattle.model.specs.declared.Description.{Description}
 use Rattle.model.specs.Description.{between, distinctBelow, over, labelOf, isRelation, ofRelation, columnCount, rowCount, foreignOf, refersOf, isColumn, lowOf, highOf, totalOf, labelsSound, foreignSound, relationSound, sound}
 
@@ -28,6 +33,8 @@ column-r d r k = between-r 1 (columnCount d r) k
 pub some-of : (d : Description) (numbers : List ℕ) (r : ℕ) → ofRelation d numbers r ≢ 0 → isRelation d r ≡ true
 unfolding ofRelation
 some-of d numbers r n = cases (isRelation d r) (λ e. e) (λ e. absurd (n (rw e)))
+
+-- ---- what a sound description gives, test by test
 
 pub record Reference (d : Description) (r : ℕ) : Type 0 where
   pub after-key : 2 ≤ foreignOf d r
@@ -54,46 +61,112 @@ pub record Sound (d : Description) : Type 0 where
   pub relations : (r : ℕ) → r < d .relations → Relation d (suc r)
   pub total : totalOf d ≤ 8192
 
+-- ---- the tests say it
+
+-- A record against a conjunction of tests, a line for each test: what the test says, and where the record has it. K makes the record of what
+-- the tests say.
+record Lines (S K : Type 0) (test : Bool) : Type 0 where
+  make : test ≡ true → K → S
+  passes : S → test ≡ true
+
+line : {S P K : Type 0} {a b : Bool} → Reflects P a → (S → P) → Lines S K b → Lines S (P → K) (a && b)
+line {a = a} {b = b} r f rest =
+    record {
+      make = λ e k. rest .make (and-right a b e) (k (of-true r (and-left a b e)));
+      passes = λ s. rw (is-true r (f s)) (rest .passes s);
+    }
+
+last-line : {S P : Type 0} {b : Bool} → Reflects P b → (S → P) → Lines S (P → S) b
+last-line r f = record { make = λ e k. k (of-true r e); passes = λ s. is-true r (f s) }
+
+by-lines : {S K : Type 0} {b : Bool} → Lines S K b → K → Reflects S b
+by-lines {b = b} lines k = reflects-as (λ e. lines .make e k) (lines .passes) (bool-r b)
+
+reference-r : (d : Description) (r : ℕ)
+    → Reflects (Reference d r) (between 2 (columnCount d r) (foreignOf d r) && (ltb 0 (refersOf d r) && ltb (refersOf d r) r))
+reference-r d r =
+    by-lines
+    (line (between-r 2 (columnCount d r) (foreignOf d r)) (λ s. (s .after-key, s .column))
+    (line (ltb-r 0 (refersOf d r)) (λ s. s .some)
+    (last-line (ltb-r (refersOf d r) r) (λ s. s .lower))))
+    (λ column some lower. record { after-key = column .0; column = column .1; some = some; lower = lower })
+
 relation-sound-r : (d : Description) (r : ℕ) → Reflects (Relation d r) (relationSound d r)
 unfolding relationSound foreignSound
 relation-sound-r d r =
-    reflects-as
-    (λ h. record {
-      keyed = h .0 .0;
-      narrow = h .0 .1;
-      some = h .1 .0 .0;
-      few = h .1 .0 .1;
-      ranges = h .1 .1 .0;
-      unreferring = h .1 .1 .1 .0;
-      referring = λ n. let f = h .1 .1 .1 .1 n in record { after-key = f .0 .0; column = f .0 .1; some = f .1 .0; lower = f .1 .1 };
+    by-lines
+    (line (between-r 1 8 (columnCount d r)) (λ s. (s .keyed, s .narrow))
+    (line (between-r 1 64 (rowCount d r)) (λ s. (s .some, s .few))
+    (line (all-r (columnCount d r) (λ k. bool-r (over d (highOf d r (suc k)) (lowOf d r (suc k))))) (λ s. s .ranges)
+    (last-line (if-r (eqb-r (foreignOf d r) 0) (eqb-r (refersOf d r) 0) (reference-r d r)) (λ s. (s .unreferring, s .referring))))))
+    (λ columns rows ranges foreign. record {
+      keyed = columns .0;
+      narrow = columns .1;
+      some = rows .0;
+      few = rows .1;
+      ranges = ranges;
+      unreferring = foreign .0;
+      referring = foreign .1;
     })
-    (λ s. ((s .keyed, s .narrow), ((s .some, s .few), (s .ranges, (s .unreferring, λ n. let f = s .referring n in ((f .after-key, f .column), (f .some, f .lower)))))))
-    (and-r (between-r 1 8 (columnCount d r))
-    (and-r (between-r 1 64 (rowCount d r))
-    (and-r (all-r (columnCount d r) (λ k. bool-r (over d (highOf d r (suc k)) (lowOf d r (suc k)))))
-    (if-r (eqb-r (foreignOf d r) 0) (eqb-r (refersOf d r) 0)
-    (and-r (between-r 2 (columnCount d r) (foreignOf d r)) (and-r (ltb-r 0 (refersOf d r)) (ltb-r (refersOf d r) r)))))))
+
+distinct-r : (d : Description) → Reflects ((a : ℕ) → a < d .levels → (b : ℕ) → b < a → labelOf d a ≢ labelOf d b) (distinctBelow (d .levels) (labelOf d))
+unfolding distinctBelow
+distinct-r d = all-r (d .levels) (λ a. all-r a (λ b. not-r (eqb-r (labelOf d a) (labelOf d b))))
 
 pub sound-r : (d : Description) → Reflects (Sound d) (sound d)
-unfolding sound labelsSound distinctBelow
+unfolding sound labelsSound
 sound-r d =
-    reflects-as
-    (λ h. record {
-      some-levels = h .0 .0;
-      few-levels = h .0 .1;
-      labels = h .1 .0 .0;
-      distinct = h .1 .0 .1;
-      some-relations = h .1 .1 .0 .0;
-      few-relations = h .1 .1 .0 .1;
-      relations = h .1 .1 .1 .0;
-      total = h .1 .1 .1 .1;
+    by-lines
+    (line (between-r 1 16 (d .levels)) (λ s. (s .some-levels, s .few-levels))
+    (line (and-r (all-r (d .levels) (λ l. leb-r (labelOf d l) 4095)) (distinct-r d)) (λ s. (s .labels, s .distinct))
+    (line (between-r 1 8 (d .relations)) (λ s. (s .some-relations, s .few-relations))
+    (line (all-r (d .relations) (λ r. relation-sound-r d (suc r))) (λ s. s .relations)
+    (last-line (leb-r (totalOf d) 8192) (λ s. s .total))))))
+    (λ levels labels count relations total. record {
+      some-levels = levels .0;
+      few-levels = levels .1;
+      labels = labels .0;
+      distinct = labels .1;
+      some-relations = count .0;
+      few-relations = count .1;
+      relations = relations;
+      total = total;
     })
-    (λ s. ((s .some-levels, s .few-levels), ((s .labels, s .distinct), ((s .some-relations, s .few-relations), (s .relations, s .total)))))
-    (and-r (between-r 1 16 (d .levels))
-    (and-r (and-r (all-r (d .levels) (λ l. leb-r (labelOf d l) 4095)) (all-r (d .levels) (λ a. all-r a (λ b. not-r (eqb-r (labelOf d a) (labelOf d b))))))
-    (and-r (between-r 1 8 (d .relations)) (and-r (all-r (d .relations) (λ r. relation-sound-r d (suc r))) (leb-r (totalOf d) 8192)))))
+
+pub sound-says : (d : Description) → sound d ≡ true → Sound d
+sound-says d = of-true (sound-r d)
+
+-- ---- what follows
 
 -- of a relation by its number
 pub relation-of : (d : Description) → Sound d → (r : ℕ) → isRelation d r ≡ true → Relation d r
 relation-of d s zero h = absurd (lt-irrefl 0 (of-true (relation-r d 0) h .0))
 relation-of d s (suc r) h = s .relations r (of-true (relation-r d (suc r)) h .1)
+
+-- only a relation refers
+pub reference-of : (d : Description) → Sound d → (r : ℕ) → foreignOf d r ≢ 0 → Reference d r
+unfolding foreignOf
+reference-of d s r n = relation-of d s r (some-of d (d .foreign) r n) .referring n
+
+module _ (d : Description) (r : ℕ) (R : Relation d (suc r)) where
+  -- whether or not it refers
+  pub foreign-column : foreignOf d (suc r) ≤ columnCount d (suc r)
+  foreign-column = ⊎-elim (λ z. rw z zero-le) (λ n. R .referring n .column) (decide (eqb-r (foreignOf d (suc r)) 0))
+
+  pub refers-lower : refersOf d (suc r) ≤ r
+  refers-lower = ⊎-elim (λ z. rw (R .unreferring z) zero-le) (λ n. omega (arith, R .referring n .lower)) (decide (eqb-r (foreignOf d (suc r)) 0))
+
+-- the order of the levels is one
+pub levels-of : (d : Description) → Sound d → LevelLaws (d .labels) (d .levels)
+unfolding labelOf
+levels-of d s = level-laws (d .labels) (d .levels) distinct
+  where
+    distinct : Distinct (d .labels) (d .levels)
+    distinct = record {
+      one = λ a b h g e. order a b (λ l. absurd (s .distinct b g a l (sym e))) (λ q. q) (λ l. absurd (s .distinct a h b l e));
+    }
+
+-- only levels dominate and are dominated
+pub over-levels : (d : Description) → Sound d → (a b : ℕ) → over d a b ≡ true → (a < d .levels) × (b < d .levels)
+unfolding over
+over-levels d s = levels-of d s .within

@@ -2,18 +2,15 @@
 -- Assumes nothing.
 use Prim.Native.Nat.{ℕ, _<_}
 use mathlib.Core.Bool.{true}
-use mathlib.Core.Logic.{_≢_}
 use mathlib.Core.Path.{_≡_, sym, _∙_}
 use native.Mathlib.Nat.{le-refl}
 use native.Mathlib.Omega.{arith}
 use Rattle.bounded.specs.Tests.{Reflects}
-use Rattle.bounded.proofs.Cases.{order}
 use Rattle.bounded.proofs.Reflection.{is-true, of-true, bool-r, and-r}
-use Rattle.model.specs.Description.{over, labelOf, isRelation, rowCount, foreignOf, isColumn, lowOf, highOf, inRange, sound}
-use Rattle.level.specs.Laws.{Distinct, LevelLaws}
-use Rattle.level.proofs.Levels.{level-laws}
+use Rattle.model.specs.Description.{over, isRelation, rowCount, isColumn, lowOf, highOf, inRange, sound}
+use Rattle.level.specs.Laws.{LevelLaws}
 use Rattle.model.specs.declared.Description.{Description}
-use Rattle.model.proofs.Sound.{column-r, some-of, Reference, Sound, sound-r, relation-of}
+use Rattle.model.proofs.Sound.{column-r, some-of, Sound, sound-says, relation-of, reference-of, levels-of}
 use Rattle.theory.specs.Laws.{Laws}
 
 -- ---- relations, columns and ranges
@@ -34,33 +31,24 @@ module _ (d : Description) where
 -- ---- a sound description
 
 module _ (d : Description) where
-  distinct : Sound d → Distinct (d .labels) (d .levels)
-  unfolding labelOf
-  distinct s = record {
-    one = λ a b h g e. order a b (λ l. absurd (s .distinct b g a l (sym e))) (λ q. q) (λ l. absurd (s .distinct a h b l e));
-  }
-
   pub sound-laws : sound d ≡ true → Laws d
-  unfolding over foreignOf
+  unfolding over
   sound-laws e = record {
     reflexive = levels .reflexive;
     transitive = levels .transitive;
     antisymmetric = levels .antisymmetric;
     within = levels .within;
     few = let h = s .few-levels in omega arith;
-    apart = λ r q. let h = reference r (λ z. zero≢one (sym z ∙ q)) .after-key in omega (arith, h, q);
-    lower = λ r n. reference r n .lower;
+    apart = λ r q. let h = reference-of d s r (λ z. zero≢one (sym z ∙ q)) .after-key in omega (arith, h, q);
+    lower = λ r n. reference-of d s r n .lower;
     keyed = λ r h. is-true (column-r d r 1) (le-refl 1, relation-of d s r h .keyed);
   }
     where
       s : Sound d
-      s = of-true (sound-r d) e
+      s = sound-says d e
 
       levels : LevelLaws (d .labels) (d .levels)
-      levels = level-laws (d .labels) (d .levels) (distinct s)
-
-      reference : (r : ℕ) → foreignOf d r ≢ 0 → Reference d r
-      reference r n = relation-of d s r (some-of d (d .foreign) r n) .referring n
+      levels = levels-of d s
 
       zero≢one : _≡_ {A = ℕ} 0 1 → ⊥
       zero≢one q = omega arith

@@ -3,6 +3,7 @@ use mathlib.Core.Path.{sym, _∙_}
 use native.Mathlib.Omega.{arith}
 use borrow.Author.Needs.{needs}
 use Rattle.bounded.proofs.Cases.{at-end}
+use Rattle.model.proofs.Sound.{sound-says}
 use Rattle.keys.specs.Facts.{Keyed}
 use Rattle.keys.proofs.Starts.{standing-at, fill-room, fill-more, keyed-none}
 use Rattle.keys.proofs.fill.Statement.{statement}
@@ -21,10 +22,10 @@ loop-holds : tie.Need-loop-holds Inv-loop μ-loop
 loop-holds c = let s = c .before .before .before in (omega arith, keyed-none _ _ _ (s .pre .1 .1))
 
 add-laid : tie.Need-add-laid Inv-loop μ-loop
-add-laid c = let s = c .before .before .before .before .before in omega (arith, c .before .before .wide .ensures, s .pre .0 .0 .bounded .relations)
+add-laid c = let s = c .before .before .before .before .before in omega (arith, c .before .before .wide .ensures, sound-says _ (s .pre .0 .0) .few-relations)
 
 laid-requires : tie.Need-laid-requires Inv-loop μ-loop
-laid-requires c κs = let s = c .before .before .before .before .before in omega (arith, c .before .before .wide .ensures, s .pre .0 .0 .bounded .relations)
+laid-requires c κs = let s = c .before .before .before .before .before in omega (arith, c .before .before .wide .ensures, sound-says _ (s .pre .0 .0) .few-relations)
 
 mul-gather : tie.Need-mul-gather Inv-loop μ-loop
 mul-gather c =
@@ -41,7 +42,7 @@ gather-requires c κs =
     fill-room _ (s .pre .0 .0) (c .before .before .before .before .loop .r) h _ (standing-at _ _ (s .pre .0 .1) (c .before .before .before .before .loop .r) h _ (c .before .before .laid .ensures)) (s .args .values .now) (c .before .before .before .before .loop .keys) (s .pre .1 .0) (c .before .before .before .before .loop .inv .1 .long)
 
 add-r : tie.Need-add-r Inv-loop μ-loop
-add-r c = let s = c .before .before .before .before .before .before .before .before .before .before .before in omega (arith, c .before .before .before .before .before .before .before .before .wide .ensures, s .pre .0 .0 .bounded .relations)
+add-r c = let s = c .before .before .before .before .before .before .before .before .before .before .before in omega (arith, c .before .before .before .before .before .before .before .before .wide .ensures, sound-says _ (s .pre .0 .0) .few-relations)
 
 loop-less : tie.Need-loop-less Inv-loop μ-loop
 loop-less c = omega arith

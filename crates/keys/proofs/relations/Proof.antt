@@ -7,6 +7,7 @@ use borrow.Author.Tests.{not-true, not-false}
 use Rattle.bounded.specs.Bounded.{allBelow}
 use Rattle.bounded.proofs.All.{all-start, all-more, all-fails, all-end}
 use Rattle.model.specs.Description.{rowCount, startOf}
+use Rattle.model.proofs.Sound.{sound-says}
 use Rattle.keys.specs.Facts.{firstOf, Kept, distinctKeys}
 use Rattle.keys.proofs.Starts.{standing-at, levels-room, distinct-at}
 use Rattle.keys.proofs.Notes.{kept-self, kept-then, relation-kept}
@@ -26,10 +27,10 @@ loop-holds : tie.Need-loop-holds Inv-loop μ-loop
 loop-holds c = (omega arith, all-start _, kept-self _)
 
 add-laid : tie.Need-add-laid Inv-loop μ-loop
-add-laid c = let s = c .before .before .before .before in omega (arith, c .before .before .wide .ensures, s .pre .0 .0 .bounded .relations)
+add-laid c = let s = c .before .before .before .before in omega (arith, c .before .before .wide .ensures, sound-says _ (s .pre .0 .0) .few-relations)
 
 laid-requires : tie.Need-laid-requires Inv-loop μ-loop
-laid-requires c κs = let s = c .before .before .before .before in omega (arith, c .before .before .wide .ensures, s .pre .0 .0 .bounded .relations)
+laid-requires c κs = let s = c .before .before .before .before in omega (arith, c .before .before .wide .ensures, sound-says _ (s .pre .0 .0) .few-relations)
 
 levels-requires : tie.Need-levels-requires Inv-loop μ-loop
 levels-requires c κs =
@@ -54,7 +55,7 @@ returns c =
     (sym (all-fails _ _ _ e (not-true _ (c .if1 .taken)) h), kept-then _ _ _ (l .inv .2) (F .1))
 
 add-r : tie.Need-add-r Inv-loop μ-loop
-add-r c = let s = c .before .before .before .before .before .before .before .before .before .before in omega (arith, c .before .before .before .before .before .before .before .before .wide .ensures, s .pre .0 .0 .bounded .relations)
+add-r c = let s = c .before .before .before .before .before .before .before .before .before .before in omega (arith, c .before .before .before .before .before .before .before .before .wide .ensures, sound-says _ (s .pre .0 .0) .few-relations)
 
 loop-less : tie.Need-loop-less Inv-loop μ-loop
 loop-less c = omega arith

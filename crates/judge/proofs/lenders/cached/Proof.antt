@@ -1,5 +1,6 @@
 use mathlib.Core.Logic.{⊎-elim}
 use native.Mathlib.Omega.{arith}
+use Rattle.model.proofs.Sound.{sound-says}
 use Rattle.judge.proofs.Places.{known-set}
 use borrow.Author.Needs.{needs}
 use Rattle.judge.proofs.lenders.cached.Statement.{statement}
@@ -9,7 +10,7 @@ mul-known : tie.Need-mul-known
 mul-known c = search needs
 
 slice-read-known : tie.Need-slice-read-known
-slice-read-known c = search needs
+slice-read-known c = let s = c .before .before .before .before .before in omega (arith, s .pre .0 .1 .level, sound-says _ (s .pre .0 .0 .sound-is) .few-levels, s .pre .1 .size)
 
 cast-result : tie.Need-cast-result
 cast-result c = omega (arith, c .before .slice-known2 .given (c .before .before .before .before .before .before .args .level))
@@ -29,7 +30,7 @@ mul-cache : tie.Need-mul-cache
 mul-cache c = search needs
 
 slice-write-cache : tie.Need-slice-write-cache
-slice-write-cache c = search needs
+slice-write-cache c = let s = c .before .before .before .before .before .before .before in omega (arith, s .pre .0 .1 .level, sound-says _ (s .pre .0 .0 .sound-is) .few-levels, s .pre .1 .size)
 
 same-length : tie.Need-same-length
 same-length c = search needs
@@ -37,7 +38,7 @@ same-length c = search needs
 returns-2 : tie.Need-returns-2
 returns-2 c =
     let s = c .before .before .before .before .before .before .before in
-    (c .lender .ensures .0, known-set _ _ _ _ _ _ _ _ (s .pre .1) (s .pre .0 .0 .levels .few) (s .pre .0 .1 .level) (c .lender .ensures .0))
+    (c .lender .ensures .0, known-set _ _ _ _ _ _ _ _ (s .pre .1) (sound-says _ (s .pre .0 .0 .sound-is) .few-levels) (s .pre .0 .1 .level) (c .lender .ensures .0))
 
 pub cached-spec : {M : Type 1} → statement M
 cached-spec =

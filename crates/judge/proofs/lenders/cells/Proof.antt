@@ -9,6 +9,7 @@ use Rattle.bounded.proofs.All.{all-start, all-more, all-fails, all-end}
 use Rattle.judge.specs.Facts.{Known}
 use Rattle.model.specs.Judge.{cellRight}
 use Rattle.model.specs.Buffers.{rowsIn}
+use Rattle.model.proofs.Sound.{sound-says}
 use Rattle.judge.proofs.Places.{known-none}
 use Rattle.judge.proofs.Columns.{fitting}
 use Rattle.judge.proofs.lenders.cells.Statement.{statement}
@@ -27,7 +28,7 @@ add-column : tie.Need-add-column Inv-loop μ-loop
 add-column c = let s = c .before .before .before .before .before in omega (arith, s .pre .0 .0 .named)
 
 loop-holds : tie.Need-loop-holds Inv-loop μ-loop
-loop-holds c = let s = c .before .before .before .before .before in (omega arith, all-start _, known-none _ _ _ _ _ (s .pre .0 .0 .levels .few))
+loop-holds c = let s = c .before .before .before .before .before in (omega arith, all-start _, known-none _ _ _ _ _ (sound-says _ (s .pre .0 .0 .sound-is) .few-levels))
 
 add-fit : tie.Need-add-fit Inv-loop μ-loop
 add-fit c = let s = c .before .before .before .before .before .before .before in omega (arith, s .pre .1 .0 .long, s .pre .0 .0 .named, s .pre .0 .0 .wide)

@@ -1,6 +1,7 @@
 use Prim.Native.Nat.{_<_}
 use native.Mathlib.Omega.{arith}
 use borrow.Author.Tests.{not-true, not-false}
+use Rattle.model.proofs.Sound.{sound-says}
 use Rattle.judge.proofs.Columns.{between-of}
 use Rattle.judge.proofs.Entities.{row-wild, row-cells, row-names}
 use Rattle.judge.proofs.rows.keyed.Statement.{statement}
@@ -10,10 +11,10 @@ returns : tie.Need-returns
 returns c = let s = c .before .before .before .before .before .before .before in row-wild _ _ _ _ _ (s .pre .0 .0) _ _ _ _ _ (s .pre .0 .1) (c .if1 .taken)
 
 mul-word : tie.Need-mul-word
-mul-word c = let s = c .before .before .before .before .before .before .before in omega (arith, s .pre .0 .1 .level, s .pre .0 .0 .levels)
+mul-word c = let s = c .before .before .before .before .before .before .before in omega (arith, s .pre .0 .1 .level, sound-says _ (s .pre .0 .0 .sound-is) .few-levels)
 
 shared-slice-read-word : tie.Need-shared-slice-read-word
-shared-slice-read-word c = let s = c .before .before .before .before .before .before .before .before in omega (arith, s .pre .0 .1 .level, s .pre .0 .0 .levels, s .pre .1 .1 .long)
+shared-slice-read-word c = let s = c .before .before .before .before .before .before .before .before in omega (arith, s .pre .0 .1 .level, sound-says _ (s .pre .0 .0 .sound-is) .few-levels, s .pre .1 .1 .long)
 
 mul-word-2 : tie.Need-mul-word-2
 mul-word-2 c = omega (arith, c .before .if1 .left)
@@ -24,7 +25,7 @@ shared-slice-read-word-2 c = let s = c .before .before .before .before .before .
 cells-requires : tie.Need-cells-requires
 cells-requires c κs =
     let s = c .before .before .before .before .before .before .before .before .before in
-    let h : s .args .level < 16 = omega (arith, s .pre .0 .1 .level, s .pre .0 .0 .levels) in
+    let h : s .args .level < 16 = omega (arith, s .pre .0 .1 .level, sound-says _ (s .pre .0 .0 .sound-is) .few-levels) in
     let g : s .args .kc < 16 = omega (arith, c .before .before .if1 .left) in
     ((s .pre .0 .0, s .pre .0 .1), (s .pre .1 .0, between-of _ _ _ _ _ (s .pre .1 .1) h g))
 

@@ -7,6 +7,7 @@ use Rattle.bounded.specs.Bounded.{allBelow}
 use Rattle.bounded.proofs.All.{all-start, all-more, all-fails, all-end}
 use Rattle.model.specs.Judge.{rowRight}
 use Rattle.model.specs.Buffers.{rowsIn}
+use Rattle.model.proofs.Sound.{sound-says}
 use Rattle.judge.proofs.rows.levels.Statement.{statement}
 use Rattle.judge.proofs.rows.levels.Tie as tie
 
@@ -26,7 +27,7 @@ returns : tie.Need-returns Inv-loop μ-loop
 returns c = sym (all-fails _ _ _ (c .before .rows .ensures) (not-true _ (c .if1 .taken)) (c .before .before .loop-test .taken))
 
 add-level : tie.Need-add-level Inv-loop μ-loop
-add-level c = let s = c .before .before .before .before .before .before .before .before .before .before in omega (arith, s .pre .0 .depth, s .pre .0 .levels .few)
+add-level c = let s = c .before .before .before .before .before .before .before .before .before .before in omega (arith, s .pre .0 .depth, sound-says _ (s .pre .0 .sound-is) .few-levels)
 
 loop-less : tie.Need-loop-less Inv-loop μ-loop
 loop-less c = omega arith

@@ -1,3 +1,5 @@
+use native.Mathlib.Omega.{arith}
+use Rattle.model.proofs.Sound.{sound-says}
 use Rattle.judge.proofs.Passes.{laid-ready, laid-named, laid-refers, laid-relation}
 use borrow.Author.Needs.{needs}
 use Rattle.judge.proofs.rows.relation.Statement.{statement}
@@ -7,7 +9,7 @@ add-laid : tie.Need-add-laid
 add-laid c = search needs
 
 laid-requires : tie.Need-laid-requires
-laid-requires c κs = search needs
+laid-requires c κs = let s = c .before .before .before .before .before .before in omega (arith, s .pre .0 .1, sound-says _ (s .pre .0 .0 .sound-is) .few-relations)
 
 add-wide : tie.Need-add-wide
 add-wide c = search needs
@@ -16,7 +18,7 @@ mul-wide : tie.Need-mul-wide
 mul-wide c = search needs
 
 element-copy-out-wide : tie.Need-element-copy-out-wide
-element-copy-out-wide c = search needs
+element-copy-out-wide c = let s = c .before .before .before .before .before .before .before in omega (arith, s .pre .0 .1, sound-says _ (s .pre .0 .0 .sound-is) .few-relations)
 
 wide-requires : tie.Need-wide-requires
 wide-requires c κs = search needs

@@ -7,6 +7,7 @@ use Rattle.bounded.specs.Bounded.{allBelow}
 use Rattle.bounded.proofs.All.{all-start, all-more, all-fails, all-end}
 use borrow.Author.Tests.{not-true, not-false}
 use Rattle.model.specs.Buffers.{rowsIn}
+use Rattle.model.proofs.Sound.{sound-says}
 use Rattle.judge.specs.Facts.{relationRight, tablesRight}
 use Rattle.judge.proofs.rows.tables.Statement.{statement}
 use Rattle.judge.proofs.rows.tables.Tie as tie
@@ -34,7 +35,7 @@ returns c =
     sym (all-fails _ _ _ (c .before .relation .ensures) (not-true _ (c .if1 .taken)) h)
 
 add-r : tie.Need-add-r Inv-loop μ-loop
-add-r c = let s = c .before .before .before .before .before .before .before .before .before .before .before in omega (arith, c .before .before .before .before .wide .ensures, s .pre .0 .relations)
+add-r c = let s = c .before .before .before .before .before .before .before .before .before .before .before in omega (arith, c .before .before .before .before .wide .ensures, sound-says _ (s .pre .0 .sound-is) .few-relations)
 
 loop-less : tie.Need-loop-less Inv-loop μ-loop
 loop-less c = omega arith

@@ -7,6 +7,7 @@ use lib.Seq.{getD-set-other}
 use Rattle.bounded.specs.Bounded.{sumBelow}
 use Rattle.bounded.proofs.Sum.{sum-start, sum-more}
 use Rattle.model.specs.Description.{sizeOf, startOf}
+use Rattle.model.proofs.Sound.{sound-says}
 use Rattle.describe.proofs.Sizes.{size-le}
 use Rattle.keys.proofs.Sets.{each-more}
 use Rattle.keys.proofs.Starts.{starts-none, noughts}
@@ -26,19 +27,19 @@ loop-holds : tie.Need-loop-holds Inv-loop μ-loop
 loop-holds c = (omega arith, sum-start _, omega arith, refl, starts-none _ (replicate 9 0) refl refl, λ k h. noughts 9 k)
 
 size-requires : tie.Need-size-requires Inv-loop μ-loop
-size-requires c κs = let s = c .before .before .before in omega (arith, c .before .before .wide .ensures, s .pre .relations)
+size-requires c κs = let s = c .before .before .before in omega (arith, c .before .before .wide .ensures, sound-says _ (s .pre) .few-relations)
 
 add-sum : tie.Need-add-sum Inv-loop μ-loop
-add-sum c = let s = c .before .before .before .before in omega (arith, c .size .ensures .0, size-le _ (s .pre) (c .before .before .loop .r), c .before .before .before .wide .ensures, s .pre .relations)
+add-sum c = let s = c .before .before .before .before in omega (arith, c .size .ensures .0, size-le _ (s .pre) (c .before .before .loop .r), c .before .before .before .wide .ensures, sound-says _ (s .pre) .few-relations)
 
 add-r : tie.Need-add-r Inv-loop μ-loop
-add-r c = let s = c .before .before .before .before in omega (arith, c .before .before .before .wide .ensures, s .pre .relations)
+add-r c = let s = c .before .before .before .before in omega (arith, c .before .before .before .wide .ensures, sound-says _ (s .pre) .few-relations)
 
 mul-starts : tie.Need-mul-starts Inv-loop μ-loop
-mul-starts c = let s = c .before .before .before .before in omega (arith, c .before .before .before .wide .ensures, s .pre .relations)
+mul-starts c = let s = c .before .before .before .before in omega (arith, c .before .before .before .wide .ensures, sound-says _ (s .pre) .few-relations)
 
 array-write-starts : tie.Need-array-write-starts Inv-loop μ-loop
-array-write-starts c = let s = c .before .before .before .before in omega (arith, c .before .before .before .wide .ensures, s .pre .relations, c .before .before .loop .inv .3)
+array-write-starts c = let s = c .before .before .before .before in omega (arith, c .before .before .before .wide .ensures, sound-says _ (s .pre) .few-relations, c .before .before .loop .inv .3)
 
 loop-less : tie.Need-loop-less Inv-loop μ-loop
 loop-less c = omega arith
@@ -49,7 +50,7 @@ loop-again c =
     let s = c .before .before .before .before in
     let l = c .before .before .loop in
     let e = sum-more (l .r) (sizeOf (s .args .d)) (l .inv .1) (c .size .ensures .0) in
-    let h : l .r + 1 < length (l .starts) = omega (arith, c .before .before .before .wide .ensures, s .pre .relations, l .inv .3) in (
+    let h : l .r + 1 < length (l .starts) = omega (arith, c .before .before .before .wide .ensures, sound-says _ (s .pre) .few-relations, l .inv .3) in (
       omega arith,
       e,
       omega (arith, c .size .ensures .0, size-le _ (s .pre) (l .r)),
