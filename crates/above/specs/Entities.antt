@@ -27,8 +27,8 @@ PlannedIn d r c P vs cs = Planned d r c P (stateOf d (holding vs cs) c .rows r)
 -- ---- rows of one entity
 
 -- the entity of row i at l has a chosen row at c
-abbrev pub touchedAt : Description → ℕ → List Bool → ℕ → State → ℕ → ℕ → Bool
-touchedAt d r chosen c S l i = touchedBy (rowCount d r) chosen (S c .rows r) (S l .rows r i)
+abbrev pub touchedAt : Description → ℕ → Plan → ℕ → State → ℕ → ℕ → Bool
+touchedAt d r P c S l i = touchedBy (rowCount d r) (P .chosen) (S c .rows r) (S l .rows r i)
 
 -- the rows with key v at two levels are one entity, or neither exists
 abbrev pub sameAt : Description → ℕ → State → ℕ → ℕ → ℕ → Bool

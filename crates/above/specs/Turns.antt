@@ -17,9 +17,10 @@ use Rattle.above.specs.Facts.{turnedBy, turned, rowAfter, withRows, rowU
 abbrev pub CellTurns : Description → ℕ → ℕ → ℕ → ℕ → ℕ → Cell → ℕ → List ℕ → List ℕ → List ℕ → List ℕ → Type 0
 CellTurns d r l i k kind n c vs cs = CellBecomes d r l i k (turnedBy kind n c (stateOf d (holding vs cs) l .rows r i k)) vs cs
 
--- so do the cells of a row, by a plan's kinds, values and classes
-abbrev pub CellsTurn : Description → ℕ → ℕ → ℕ → List ℕ → List ℕ → List ℕ → ℕ → List ℕ → List ℕ → List ℕ → List ℕ → Type 0
-CellsTurn d r l i kinds values classes c vs cs = RowBecomes d r l i (λ k. turned kinds values classes c k (stateOf d (holding vs cs) l .rows r i k)) vs cs
+-- so do the cells of a row
+abbrev pub CellsTurn : Description → ℕ → Plan → ℕ → ℕ → ℕ → List ℕ → List ℕ → List ℕ → List ℕ → Type 0
+CellsTurn d r P c l i vs cs =
+    RowBecomes d r l i (λ k. turned (P .kinds) (P .values) (P .classes) c k (stateOf d (holding vs cs) l .rows r i k)) vs cs
 
 -- a row stays, is emptied, or its cells turn, as its entity has a chosen row at the subject's level; and all else stays
 abbrev pub RowTurns : Description → ℕ → Plan → ℕ → ℕ → ℕ → List ℕ → List ℕ → List ℕ → List ℕ → Type 0

@@ -39,23 +39,24 @@ fn near(
 pub(crate) fn touched(
     values: &[u32],
     classes: &[u8],
-    chosen: &[bool],
     description: Description,
     relation: usize,
     part: Part,
+    plan: Plan,
     subject: usize,
     level: usize,
     row: usize,
 ) -> bool
     requires { ⌜ Lent description relation part (length (now values)) (length (now classes)) × InRow description relation level row ⌝ }
-    requires { ⌜ InLevel description relation subject × OneRow description (now values) relation subject × (length (now chosen) ≡ 64) ⌝ }
-    ensures { λ r. ⌜ r ≡ touchedAt description relation (now (chosen .entry)) subject (stateOf description (holding (now (values .entry)) (now (classes .entry)))) level row ⌝ }
+    requires { ⌜ InLevel description relation subject × OneRow description (now values) relation subject ⌝ }
+    ensures { λ r. ⌜ r ≡ touchedAt description relation plan subject (stateOf description (holding (now (values .entry)) (now (classes .entry)))) level row ⌝ }
 {
     let key = value_at(values, description, relation, part, level, row, 1);
     if key == 0 {
         return false;
     }
     let rows = part.rows;
+    let chosen = plan.chosen;
     let own = near(values, description, relation, part, subject, key, row);
     if rows <= own {
         return false;
