@@ -30,12 +30,6 @@ pub record Apart (c l : ℕ) : Type 0 where
   pub few : c < 16
   pub other : l ≢ c
 
--- a plan's kinds, values and classes: one for each column, from 0
-pub record Lists (k v c : ℕ) : Type 0 where
-  pub kinds : k ≡ 9
-  pub values : v ≡ 9
-  pub classes : c ≡ 9
-
 -- relation s refers to relation r, and both have rows at the two levels
 pub record Referring (d : Description) (r s c l : ℕ) : Type 0 where
   pub apart : Apart c l

@@ -9,12 +9,11 @@ ghost use mathlib.Core.Path.{_≡_};
 ghost use mathlib.Core.Logic.{_≢_};
 ghost use lib.ListN.{length};
 ghost use Prim.Native.Nat.{_<_};
-ghost use Rattle.model.specs.Description.{rowCount};
-ghost use Rattle.model.specs.Tables.{same, at, rowsOf};
 ghost use Rattle.model.specs.Buffers.{holding, stateOf};
 ghost use Rattle.cells.specs.Layout.{Sized, Lent, InLevel, InRow, Row};
 ghost use Rattle.cells.specs.Changed.{keyPlace};
-ghost use Rattle.above.specs.Facts.{OneRow, touchedBy, goneBy};
+ghost use Rattle.above.specs.Facts.{OneRow, goneBy};
+ghost use Rattle.above.specs.Entities.{touchedAt, sameAt};
 
 // The row of a key at a level, looked for at `hint` first: entities tend to stand in the same row everywhere.
 fn near(
@@ -40,23 +39,24 @@ fn near(
 pub(crate) fn touched(
     values: &[u32],
     classes: &[u8],
-    chosen: &[bool],
     description: Description,
     relation: usize,
     part: Part,
+    plan: Plan,
     subject: usize,
     level: usize,
     row: usize,
 ) -> bool
     requires { ⌜ Lent description relation part (length (now values)) (length (now classes)) × InRow description relation level row ⌝ }
-    requires { ⌜ InLevel description relation subject × OneRow description (now values) relation subject × (length (now chosen) ≡ 64) ⌝ }
-    ensures { λ r. ⌜ r ≡ touchedBy (rowCount description relation) (now (chosen .entry)) (stateOf description (holding (now (values .entry)) (now (classes .entry))) subject .rows relation) (stateOf description (holding (now (values .entry)) (now (classes .entry))) level .rows relation row) ⌝ }
+    requires { ⌜ InLevel description relation subject × OneRow description (now values) relation subject ⌝ }
+    ensures { λ r. ⌜ r ≡ touchedAt description relation plan subject (stateOf description (holding (now (values .entry)) (now (classes .entry)))) level row ⌝ }
 {
     let key = value_at(values, description, relation, part, level, row, 1);
     if key == 0 {
         return false;
     }
     let rows = part.rows;
+    let chosen = plan.chosen;
     let own = near(values, description, relation, part, subject, key, row);
     if rows <= own {
         return false;
@@ -119,7 +119,7 @@ pub fn agree(
 ) -> bool
     requires { ⌜ Lent description relation part (length (now values)) (length (now classes)) × (key ≢ 0) ⌝ }
     requires { ⌜ InLevel description relation one × InLevel description relation other ⌝ }
-    ensures { λ r. ⌜ r ≡ same (at description (rowsOf (stateOf description (holding (now (values .entry)) (now (classes .entry))))) relation one key 1) (at description (rowsOf (stateOf description (holding (now (values .entry)) (now (classes .entry))))) relation other key 1) ⌝ }
+    ensures { λ r. ⌜ r ≡ sameAt description relation (stateOf description (holding (now (values .entry)) (now (classes .entry)))) one other key ⌝ }
 {
     let rows = part.rows;
     let here = find(values, description, relation, part, one, key);

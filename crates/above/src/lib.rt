@@ -6,11 +6,8 @@ mod rows;
 
 use cells::layout::Part;
 use model::Description;
-ghost use mathlib.Core.Path.{_≡_};
-ghost use lib.ListN.{length};
-ghost use Rattle.model.specs.Buffers.{holding, stateOf};
-ghost use Rattle.cells.specs.Layout.{Lent};
-ghost use Rattle.above.specs.Facts.{Working, Planned, carried};
+ghost use Rattle.above.specs.Entities.{Carrying, PlannedIn};
+ghost use Rattle.above.specs.Turns.{LevelsTurn};
 
 // What a statement does to the rows above, of one relation. A row at the subject's level is touched where it is chosen; its entity's rows
 // above are emptied where `gone` holds and the entity is the subject's own; else their cells of the subject's class change, by column:
@@ -34,9 +31,9 @@ pub fn above(
     plan: Plan,
     subject: usize,
 )
-    requires { ⌜ Lent description relation part (length (now values)) (length (now classes)) × Working description order relation subject (stateOf description (holding (now values) (now classes))) ⌝ }
-    requires { ⌜ Planned description relation subject plan (stateOf description (holding (now values) (now classes)) subject .rows relation) ⌝ }
-    ensures { λ _. ⌜ stateOf description (holding (now (values .exit)) (now (classes .exit))) ≡ carried description subject relation plan (stateOf description (holding (now (values .entry)) (now (classes .entry)))) ⌝ }
+    requires { ⌜ Carrying description order relation part subject (now values) (now classes) ⌝ }
+    requires { ⌜ PlannedIn description relation subject plan (now values) (now classes) ⌝ }
+    ensures { λ _. ⌜ LevelsTurn description relation plan subject (now (values .entry)) (now (classes .entry)) (now (values .exit)) (now (classes .exit)) ⌝ }
 {
     let levels = description.levels as usize;
     let mut level = 0;

@@ -12,10 +12,10 @@ ghost use mathlib.Core.Path.{_≡_};
 ghost use lib.ListN.{length};
 ghost use Prim.Native.Nat.{_<_};
 ghost use Rattle.model.specs.Buffers.{holding, stateOf};
-ghost use Rattle.cells.specs.Layout.{Lent};
-ghost use Rattle.cells.specs.Changed.{changeLevel};
 ghost use Rattle.asked.specs.Facts.{Ordered, Related};
-ghost use Rattle.above.specs.Facts.{Reaching, Working, Planned, lostBy, handed, givenBy, carried};
+ghost use Rattle.above.specs.Facts.{Reaching, lostBy, handed, givenBy};
+ghost use Rattle.above.specs.Entities.{Carrying, PlannedIn};
+ghost use Rattle.above.specs.Turns.{LevelTurns};
 
 // Whether a reference that is taken names another entity at a level than at the subject's.
 fn lost(
@@ -112,9 +112,9 @@ pub(crate) fn reach(
     subject: usize,
     level: usize,
 )
-    requires { ⌜ Lent description relation part (length (now values)) (length (now classes)) × Working description order relation subject (stateOf description (holding (now values) (now classes))) ⌝ }
-    requires { ⌜ Planned description relation subject plan (stateOf description (holding (now values) (now classes)) subject .rows relation) × (level < description .levels) ⌝ }
-    ensures { λ _. ⌜ stateOf description (holding (now (values .exit)) (now (classes .exit))) ≡ changeLevel level (λ B. carried description subject relation plan (stateOf description (holding (now (values .entry)) (now (classes .entry)))) level) (stateOf description (holding (now (values .entry)) (now (classes .entry)))) ⌝ }
+    requires { ⌜ Carrying description order relation part subject (now values) (now classes) ⌝ }
+    requires { ⌜ PlannedIn description relation subject plan (now values) (now classes) × (level < description .levels) ⌝ }
+    ensures { λ _. ⌜ LevelTurns description relation plan subject level (now (values .entry)) (now (classes .entry)) (now (values .exit)) (now (classes .exit)) ⌝ }
 {
     if level == subject {
         return;

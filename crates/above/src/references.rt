@@ -9,16 +9,14 @@ use cells::search::find;
 use cells::write::put_value;
 use model::Description;
 ghost use mathlib.Core.Path.{_≡_};
-ghost use mathlib.Core.Bool.{true, _&&_};
-ghost use lib.Dec.{eqb};
+ghost use mathlib.Core.Bool.{true};
 ghost use lib.ListN.{length};
-ghost use Prim.Native.Nat.{suc};
-ghost use Rattle.model.specs.Description.{sound, isRelation, rowCount, columnCount};
-ghost use Rattle.model.specs.Tables.{same, at, rowsOf};
+ghost use Rattle.model.specs.Description.{sound, isRelation};
 ghost use Rattle.model.specs.Buffers.{holding, inside, stateOf};
 ghost use Rattle.cells.specs.Layout.{Lent, InLevel, InRow};
-ghost use Rattle.cells.specs.Changed.{changeLevel, withRow};
-ghost use Rattle.above.specs.Facts.{Apart, Referring, rowUnnamed, withRows, withReferrer, withReferrers};
+ghost use Rattle.above.specs.Facts.{Apart, Referring};
+ghost use Rattle.above.specs.Entities.{ownsAt, keepsAt};
+ghost use Rattle.above.specs.Turns.{ReferenceTurns, ReferencesTurn, ReferrerTurns, ReferrersTurn};
 
 // Whether a row's entity has a row at the subject's level, or is none and has none.
 fn owns(
@@ -33,7 +31,7 @@ fn owns(
 ) -> bool
     requires { ⌜ Lent description relation part (length (now values)) (length (now classes)) × InRow description relation level row ⌝ }
     requires { ⌜ InLevel description relation subject ⌝ }
-    ensures { λ r. ⌜ r ≡ same (stateOf description (holding (now (values .entry)) (now (classes .entry))) level .rows relation row 1) (at description (rowsOf (stateOf description (holding (now (values .entry)) (now (classes .entry))))) relation subject (stateOf description (holding (now (values .entry)) (now (classes .entry))) level .rows relation row 1 .value) 1) ⌝ }
+    ensures { λ r. ⌜ r ≡ ownsAt description relation subject (stateOf description (holding (now (values .entry)) (now (classes .entry)))) level row ⌝ }
 {
     let rows = part.rows;
     let key = value_at(values, description, relation, part, level, row, 1);
@@ -59,7 +57,7 @@ fn kept(
 ) -> bool
     requires { ⌜ Lent description relation part (length (now values)) (length (now classes)) × InRow description relation level row ⌝ }
     requires { ⌜ InLevel description relation subject × (inside description relation level row column ≡ true) ⌝ }
-    ensures { λ r. ⌜ r ≡ (eqb (stateOf description (holding (now (values .entry)) (now (classes .entry))) level .rows relation row column .class) subject && same (stateOf description (holding (now (values .entry)) (now (classes .entry))) level .rows relation row 1) (at description (rowsOf (stateOf description (holding (now (values .entry)) (now (classes .entry))))) relation subject (stateOf description (holding (now (values .entry)) (now (classes .entry))) level .rows relation row 1 .value) 1)) ⌝ }
+    ensures { λ r. ⌜ r ≡ keepsAt description relation subject (stateOf description (holding (now (values .entry)) (now (classes .entry)))) level row column ⌝ }
 {
     if class_at(classes, description, relation, part, level, row, column) != subject {
         return false;
@@ -92,7 +90,7 @@ fn reference(
 )
     requires { ⌜ Lent description relation part (length (now values)) (length (now classes)) × Lent description referrer place (length (now values)) (length (now classes)) ⌝ }
     requires { ⌜ Referring description relation referrer subject level × InRow description referrer level row ⌝ }
-    ensures { λ _. ⌜ stateOf description (holding (now (values .exit)) (now (classes .entry))) ≡ changeLevel level (withRow (columnCount description referrer) referrer row (rowUnnamed description relation plan subject (stateOf description (holding (now (values .entry)) (now (classes .entry)))) level referrer (stateOf description (holding (now (values .entry)) (now (classes .entry))) level .rows referrer row))) (stateOf description (holding (now (values .entry)) (now (classes .entry)))) ⌝ }
+    ensures { λ _. ⌜ ReferenceTurns description relation plan subject level referrer row (now (values .entry)) (now (classes .entry)) (now (values .exit)) (now (classes .entry)) ⌝ }
 {
     let column = description.foreign[referrer] as usize;
     let key = value_at(values, description, referrer, place, level, row, column);
@@ -140,7 +138,7 @@ fn references(
 )
     requires { ⌜ Lent description relation part (length (now values)) (length (now classes)) × Lent description referrer place (length (now values)) (length (now classes)) ⌝ }
     requires { ⌜ Referring description relation referrer subject level ⌝ }
-    ensures { λ _. ⌜ stateOf description (holding (now (values .exit)) (now (classes .entry))) ≡ changeLevel level (withRows (rowCount description referrer) (columnCount description referrer) referrer (λ i. rowUnnamed description relation plan subject (stateOf description (holding (now (values .entry)) (now (classes .entry)))) level referrer (stateOf description (holding (now (values .entry)) (now (classes .entry))) level .rows referrer i))) (stateOf description (holding (now (values .entry)) (now (classes .entry)))) ⌝ }
+    ensures { λ _. ⌜ ReferencesTurn description relation plan subject level referrer (now (values .entry)) (now (classes .entry)) (now (values .exit)) (now (classes .entry)) ⌝ }
 {
     let rows = place.rows;
     let mut row = 0;
@@ -176,7 +174,7 @@ fn referrer(
 )
     requires { ⌜ Lent description relation part (length (now values)) (length (now classes)) × (sound description ≡ true) ⌝ }
     requires { ⌜ Apart subject level × InLevel description relation level × InLevel description relation subject × (isRelation description referrer ≡ true) ⌝ }
-    ensures { λ _. ⌜ stateOf description (holding (now (values .exit)) (now (classes .entry))) ≡ changeLevel level (withReferrer description relation plan subject (stateOf description (holding (now (values .entry)) (now (classes .entry)))) level referrer) (stateOf description (holding (now (values .entry)) (now (classes .entry)))) ⌝ }
+    ensures { λ _. ⌜ ReferrerTurns description relation plan subject level referrer (now (values .entry)) (now (classes .entry)) (now (values .exit)) (now (classes .entry)) ⌝ }
 {
     if description.refers[referrer] as usize != relation {
         return;
@@ -209,7 +207,7 @@ pub(crate) fn referrers(
 )
     requires { ⌜ Lent description relation part (length (now values)) (length (now classes)) × (sound description ≡ true) ⌝ }
     requires { ⌜ Apart subject level × InLevel description relation level × InLevel description relation subject ⌝ }
-    ensures { λ _. ⌜ stateOf description (holding (now (values .exit)) (now (classes .entry))) ≡ changeLevel level (withReferrers (suc (description .relations)) description relation plan subject (stateOf description (holding (now (values .entry)) (now (classes .entry)))) level) (stateOf description (holding (now (values .entry)) (now (classes .entry)))) ⌝ }
+    ensures { λ _. ⌜ ReferrersTurn description relation plan subject level (now (values .entry)) (now (classes .entry)) (now (values .exit)) (now (classes .entry)) ⌝ }
 {
     if !plan.gone {
         return;

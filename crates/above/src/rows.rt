@@ -10,12 +10,11 @@ use model::Description;
 ghost use mathlib.Core.Path.{_≡_};
 ghost use mathlib.Core.Bool.{true};
 ghost use lib.ListN.{length};
-ghost use Rattle.model.specs.Description.{rowCount, columnCount};
 ghost use Rattle.model.specs.Tables.{cell as cellOf};
-ghost use Rattle.model.specs.Buffers.{holding, inside, stateOf};
+ghost use Rattle.model.specs.Buffers.{inside};
 ghost use Rattle.cells.specs.Layout.{Lent, InLevel, InRow};
-ghost use Rattle.cells.specs.Changed.{changeLevel, withCell, withRow};
-ghost use Rattle.above.specs.Facts.{OneRow, Apart, Lists, becomes, turnedBy, turned, rowAfter, withRows};
+ghost use Rattle.above.specs.Facts.{OneRow, Apart, becomes};
+ghost use Rattle.above.specs.Turns.{CellTurns, CellsTurn, RowTurns, RowsTurn};
 
 // The value of a cell of the subject's class afterwards.
 fn value(kind: u8, planned: u32, owner: u8, subject: u8, x: u32) -> u32
@@ -63,7 +62,7 @@ fn cell(
 )
     requires { ⌜ Lent description relation part (length (now values)) (length (now classes)) ⌝ }
     requires { ⌜ inside description relation level row column ≡ true ⌝ }
-    ensures { λ _. ⌜ stateOf description (holding (now (values .exit)) (now (classes .exit))) ≡ changeLevel level (withCell relation row column (turnedBy kind (cellOf planned owner) subject (stateOf description (holding (now (values .entry)) (now (classes .entry))) level .rows relation row column))) (stateOf description (holding (now (values .entry)) (now (classes .entry)))) ⌝ }
+    ensures { λ _. ⌜ CellTurns description relation level row column kind (cellOf planned owner) subject (now (values .entry)) (now (classes .entry)) (now (values .exit)) (now (classes .exit)) ⌝ }
 {
     let owned = class_at(classes, description, relation, part, level, row, column);
     if owned != subject {
@@ -90,19 +89,17 @@ fn cell(
 fn cells(
     values: &mut [u32],
     classes: &mut [u8],
-    kinds: &[u8],
-    news: &[u32],
-    owners: &[u8],
     description: Description,
     relation: usize,
     part: Part,
+    plan: Plan,
     subject: u8,
     level: usize,
     row: usize,
 )
     requires { ⌜ Lent description relation part (length (now values)) (length (now classes)) ⌝ }
-    requires { ⌜ InRow description relation level row × Lists (length (now kinds)) (length (now news)) (length (now owners)) ⌝ }
-    ensures { λ _. ⌜ stateOf description (holding (now (values .exit)) (now (classes .exit))) ≡ changeLevel level (withRow (columnCount description relation) relation row (λ k. turned (now (kinds .entry)) (now (news .entry)) (now (owners .entry)) subject k (stateOf description (holding (now (values .entry)) (now (classes .entry))) level .rows relation row k))) (stateOf description (holding (now (values .entry)) (now (classes .entry)))) ⌝ }
+    requires { ⌜ InRow description relation level row ⌝ }
+    ensures { λ _. ⌜ CellsTurn description relation plan subject level row (now (values .entry)) (now (classes .entry)) (now (values .exit)) (now (classes .exit)) ⌝ }
 {
     let columns = part.columns;
     let mut column = 0;
@@ -114,9 +111,9 @@ fn cells(
             description,
             relation,
             part,
-            kinds[column],
-            news[column],
-            owners[column],
+            plan.kinds[column],
+            plan.values[column],
+            plan.classes[column],
             subject,
             level,
             row,
@@ -129,30 +126,27 @@ fn cells(
 fn row(
     values: &mut [u32],
     classes: &mut [u8],
-    kinds: &[u8],
-    news: &[u32],
-    owners: &[u8],
-    chosen: &[bool],
     description: Description,
     relation: usize,
     part: Part,
-    gone: bool,
+    plan: Plan,
     subject: u8,
     level: usize,
     row: usize,
 )
     requires { ⌜ Lent description relation part (length (now values)) (length (now classes)) × InRow description relation level row ⌝ }
-    requires { ⌜ InLevel description relation subject × OneRow description (now values) relation subject × Lists (length (now kinds)) (length (now news)) (length (now owners)) × (length (now chosen) ≡ 64) ⌝ }
-    ensures { λ _. ⌜ stateOf description (holding (now (values .exit)) (now (classes .exit))) ≡ changeLevel level (withRow (columnCount description relation) relation row (rowAfter (rowCount description relation) (record { chosen = now (chosen .entry); gone = gone; kinds = now (kinds .entry); values = now (news .entry); classes = now (owners .entry) }) subject (stateOf description (holding (now (values .entry)) (now (classes .entry))) subject .rows relation) (stateOf description (holding (now (values .entry)) (now (classes .entry))) level .rows relation row))) (stateOf description (holding (now (values .entry)) (now (classes .entry)))) ⌝ }
+    requires { ⌜ InLevel description relation subject × OneRow description (now values) relation subject ⌝ }
+    ensures { λ _. ⌜ RowTurns description relation plan subject level row (now (values .entry)) (now (classes .entry)) (now (values .exit)) (now (classes .exit)) ⌝ }
 {
+    let gone = plan.gone;
     let at = subject as usize;
     if !touched(
         values,
         classes,
-        chosen,
         description,
         relation,
         part,
+        plan,
         at,
         level,
         row,
@@ -167,12 +161,10 @@ fn row(
     cells(
         values,
         classes,
-        kinds,
-        news,
-        owners,
         description,
         relation,
         part,
+        plan,
         subject,
         level,
         row,
@@ -192,27 +184,18 @@ pub(crate) fn rows(
 )
     requires { ⌜ Lent description relation part (length (now values)) (length (now classes)) × InLevel description relation level ⌝ }
     requires { ⌜ Apart subject level × InLevel description relation subject × OneRow description (now values) relation subject ⌝ }
-    ensures { λ _. ⌜ stateOf description (holding (now (values .exit)) (now (classes .exit))) ≡ changeLevel level (withRows (rowCount description relation) (columnCount description relation) relation (λ i. rowAfter (rowCount description relation) plan subject (stateOf description (holding (now (values .entry)) (now (classes .entry))) subject .rows relation) (stateOf description (holding (now (values .entry)) (now (classes .entry))) level .rows relation i))) (stateOf description (holding (now (values .entry)) (now (classes .entry)))) ⌝ }
+    ensures { λ _. ⌜ RowsTurn description relation plan subject level (now (values .entry)) (now (classes .entry)) (now (values .exit)) (now (classes .exit)) ⌝ }
 {
-    let kinds = plan.kinds;
-    let news = plan.values;
-    let owners = plan.classes;
-    let chosen = plan.chosen;
-    let gone = plan.gone;
     let rows = part.rows;
     let mut i = 0;
     while i < rows {
         row(
             values,
             classes,
-            &kinds,
-            &news,
-            &owners,
-            &chosen,
             description,
             relation,
             part,
-            gone,
+            plan,
             subject,
             level,
             i,

@@ -4,14 +4,12 @@ use crate::layout::place;
 use model::Description;
 ghost use mathlib.Core.Path.{_≡_};
 ghost use mathlib.Core.Bool.{true};
-ghost use Prim.Native.Nat.{ℕ};
-ghost use mathlib.Core.List.{List};
 ghost use lib.ListN.{length};
-ghost use Rattle.model.specs.Description.{columnCount};
 ghost use Rattle.model.specs.Tables.{cell, norow};
-ghost use Rattle.model.specs.Buffers.{holding, inside, stateOf};
+ghost use Rattle.model.specs.Buffers.{inside};
 ghost use Rattle.cells.specs.Layout.{Sized, Lent, InRow};
-ghost use Rattle.cells.specs.Changed.{changeLevel, withCell, withValue, withRow, listedRow};
+ghost use Rattle.cells.specs.Changed.{listedRow};
+ghost use Rattle.cells.specs.Stored.{CellBecomes, ValueBecomes, RowBecomes};
 
 // A cell is stored.
 pub fn put(
@@ -28,7 +26,7 @@ pub fn put(
 )
     requires { ⌜ Lent description relation part (length (now values)) (length (now classes)) ⌝ }
     requires { ⌜ inside description relation level row column ≡ true ⌝ }
-    ensures { λ _. ⌜ stateOf description (holding (now (values .exit)) (now (classes .exit))) ≡ changeLevel level (withCell relation row column (cell value class)) (stateOf description (holding (now (values .entry)) (now (classes .entry)))) ⌝ }
+    ensures { λ _. ⌜ CellBecomes description relation level row column (cell value class) (now (values .entry)) (now (classes .entry)) (now (values .exit)) (now (classes .exit)) ⌝ }
 {
     let at = place(description, relation, part, level, row, column);
     values[at] = value;
@@ -48,7 +46,7 @@ pub fn put_value(
 )
     requires { ⌜ Sized description relation part (length (now values)) ⌝ }
     requires { ⌜ inside description relation level row column ≡ true ⌝ }
-    ensures { λ _. ⌜ ((classes : List ℕ) → stateOf description (holding (now (values .exit)) classes) ≡ changeLevel level (withValue relation row column number) (stateOf description (holding (now (values .entry)) classes))) ⌝ }
+    ensures { λ _. ⌜ ValueBecomes description relation level row column number (now (values .entry)) (now (values .exit)) ⌝ }
 {
     let at = place(description, relation, part, level, row, column);
     values[at] = number;
@@ -68,7 +66,7 @@ pub fn store(
 )
     requires { ⌜ Lent description relation part (length (now values)) (length (now classes)) ⌝ }
     requires { ⌜ InRow description relation level row ⌝ }
-    ensures { λ _. ⌜ stateOf description (holding (now (values .exit)) (now (classes .exit))) ≡ changeLevel level (withRow (columnCount description relation) relation row (listedRow news owners)) (stateOf description (holding (now (values .entry)) (now (classes .entry)))) ⌝ }
+    ensures { λ _. ⌜ RowBecomes description relation level row (listedRow news owners) (now (values .entry)) (now (classes .entry)) (now (values .exit)) (now (classes .exit)) ⌝ }
 {
     let columns = part.columns;
     let mut column = 0;
@@ -101,7 +99,7 @@ pub fn clear(
 )
     requires { ⌜ Lent description relation part (length (now values)) (length (now classes)) ⌝ }
     requires { ⌜ InRow description relation level row ⌝ }
-    ensures { λ _. ⌜ stateOf description (holding (now (values .exit)) (now (classes .exit))) ≡ changeLevel level (withRow (columnCount description relation) relation row norow) (stateOf description (holding (now (values .entry)) (now (classes .entry)))) ⌝ }
+    ensures { λ _. ⌜ RowBecomes description relation level row norow (now (values .entry)) (now (classes .entry)) (now (values .exit)) (now (classes .exit)) ⌝ }
 {
     store(
         values,

@@ -24,7 +24,7 @@ returns c = row-kept _ _ _ _ _ _ _ _ _ _ (c .before .touched .ensures) (not-true
 
 class-at-requires : tie.Need-class-at-requires
 class-at-requires c κs =
-    let s = c .before .before .before .before .before .before .before .before .before .before .before in
+    let s = c .before .before .before .before .before .before .before in
     (record { laid = s .pre .0 .0 .laid; size = s .pre .0 .0 .classes }, key-inside _ _ _ _ (s .pre .0 .1 .level) (s .pre .0 .1 .row))
 
 clear-requires : tie.Need-clear-requires
@@ -66,8 +66,8 @@ returns-3 c =
     let j = k .before .before .before in
     let q = j .before in
     let u = q .before .before .before in
-    let s = u .before .before .before .before .before .before .before .before .before in
-    let n : (s .args .gone && eqb (q .class-at .result) (s .args .subject)) ≡ false = ⊎-elim (λ w. and-false-right (s .args .gone) (eqb (q .class-at .result) (s .args .subject)) (w .1 .left)) (λ w. rw (w .left)) (j .if2 .came) in
+    let s = u .before .before .before .before .before in
+    let n : (s .args .plan .gone && eqb (q .class-at .result) (s .args .subject)) ≡ false = ⊎-elim (λ w. and-false-right (s .args .plan .gone) (eqb (q .class-at .result) (s .args .subject)) (w .1 .left)) (λ w. rw (w .left)) (j .if2 .came) in
     row-turned
     _ _ _ _ _ _ _ _ _ _
     (u .touched .ensures)
