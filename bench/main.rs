@@ -1,5 +1,5 @@
 // Times the proved judge, the proved statements and `mlrun` beside Rust programs that do the same, in one run and on the same tables.
-// `bench/run` builds it and calls it with the program `timing`, which does a thing as often as its input says, and with `mlrun`; the time of
+// `bench/run` builds it and calls it with the program `tried`, which does a thing as often as its input says, and with `mlrun`; the time of
 // one call is the difference of two runs.
 
 mod judge;
@@ -40,11 +40,20 @@ fn statement(what: usize) -> Statement<'static> {
     }
 }
 
+// What the proved program is given.
+fn input(t: &Tables, times: u32, what: usize) -> String {
+    if what == 0 {
+        case(t, times, None)
+    } else {
+        case(t, times, Some(&statement(what)))
+    }
+}
+
 fn proved_seconds(program: &[String], t: &Tables, times: u32, what: usize) -> f64 {
-    let input = case(t, times, what as u16);
+    let input = input(t, times, what);
     let began = Instant::now();
     let mut child = Command::new(&program[0]).args(&program[1..]).stdin(Stdio::piped()).stdout(Stdio::piped()).spawn().expect("the program");
-    child.stdin.take().unwrap().write_all(&input).expect("its input");
+    child.stdin.take().unwrap().write_all(input.as_bytes()).expect("its input");
     let out = child.wait_with_output().expect("its output");
     let took = began.elapsed().as_secs_f64();
     let wanted = (100 * counted(what, t.d.rows[1])).to_string();
@@ -106,17 +115,17 @@ fn compare(program: &[String], t: &Tables, what: usize) -> (f64, f64) {
     ((whole - base) / calls * 1e6, rust / calls * 1e6)
 }
 
-// Small cases: legal tables, the same with one borrowed value changed, and each statement: what the program's own check is run on.
+// Small cases, to see without a clock that the program reads what it is given: legal tables, the same with one borrowed value changed, and
+// each statement. It must answer as it does at the end of its own `stdout`.
 fn sample() {
     let mut t = full(Order::Sets, 2, 2, true, Lending::Lowest);
-    let mut bytes = case(&t, 2, 0);
+    print!("{}", input(&t, 2, 0));
     t.values[17] += 1;
-    bytes.extend(case(&t, 3, 0));
+    print!("{}", input(&t, 3, 0));
     let t = full(Order::Ranks, 1, 4, false, Lending::Lowest);
     for what in 1..5 {
-        bytes.extend(case(&t, 2, what));
+        print!("{}", input(&t, 2, what));
     }
-    std::io::stdout().write_all(&bytes).expect("standard output");
 }
 
 fn report(program: &[String], t: &Tables, what: usize) {

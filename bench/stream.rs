@@ -54,7 +54,8 @@ fn conditions(s: &Statement) -> Vec<u8> {
     bytes
 }
 
-fn number(kind: Kind) -> u16 {
+// The number of a kind of statement in a record.
+pub fn number(kind: Kind) -> u16 {
     match kind {
         Kind::Delete => 17,
         Kind::Update => 18,

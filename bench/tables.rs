@@ -1,6 +1,9 @@
 // Full legal tables to time a judge on.
 
 use crate::judge::Description;
+use crate::statements::Statement;
+use crate::stream::number;
+use std::fmt::Write;
 
 #[derive(Clone)]
 pub struct Tables {
@@ -73,29 +76,45 @@ pub fn full(order: Order, relations: usize, rows: usize, refer: bool, lending: L
     Tables { name, d, values, classes }
 }
 
-// The tables as a case of the program `timing`: 221 numbers of two bytes, then values and classes. `what` is 0 to judge, 1 to 4 a statement.
-pub fn case(t: &Tables, times: u32, what: u16) -> Vec<u8> {
-    let mut words: Vec<u16> = Vec::new();
-    let fill = |words: &mut Vec<u16>, xs: &[usize], n: usize| {
-        for i in 0..n {
-            words.push(xs.get(i).copied().unwrap_or(0) as u16);
+// What is done so often with the tables, as lines for the program `tried`: a statement, or the judge where there is none.
+pub fn case(t: &Tables, times: u32, statement: Option<&Statement>) -> String {
+    let d = &t.d;
+    let mut lines = String::new();
+    let mut given = |place: usize, numbers: Vec<usize>| {
+        for (at, part) in numbers.chunks(500).enumerate() {
+            writeln!(lines, "given {} {}: {}", place + 500 * at, part.len(), listed(part)).expect("a string");
         }
     };
-    words.push(t.d.levels as u16);
-    words.extend(&t.d.labels);
-    words.push(t.d.columns.len() as u16 - 1);
-    for xs in [&t.d.columns, &t.d.rows, &t.d.foreign, &t.d.refers] {
-        fill(&mut words, xs, 9);
+    let nine = |numbers: &[usize]| (0..9).map(|r| numbers.get(r).copied().unwrap_or(0)).collect::<Vec<usize>>();
+    given(0, vec![d.levels]);
+    given(1, d.labels.iter().map(|l| *l as usize).collect());
+    given(17, vec![d.columns.len() - 1]);
+    for (place, numbers) in [(18, &d.columns), (27, &d.rows), (36, &d.foreign), (45, &d.refers)] {
+        given(place, nine(numbers));
     }
-    fill(&mut words, &t.d.low, 81);
-    fill(&mut words, &t.d.high, 81);
-    words.push(t.values.len() as u16);
-    words.push(t.classes.len() as u16);
-    words.push((times % 65536) as u16);
-    words.push((times / 65536) as u16);
-    words.push(what);
-    let mut bytes: Vec<u8> = words.iter().flat_map(|w| w.to_le_bytes()).collect();
-    bytes.extend(t.values.iter().flat_map(|v| v.to_le_bytes()));
-    bytes.extend(&t.classes);
-    bytes
+    given(54, d.low.clone());
+    given(135, d.high.clone());
+    given(216, vec![t.values.len(), t.classes.len()]);
+    given(1000, t.values.iter().map(|v| *v as usize).collect());
+    given(10000, t.classes.iter().map(|c| *c as usize).collect());
+    lines.push_str("tables\n");
+    match statement {
+        None => writeln!(lines, "repeat {times} 0"),
+        Some(s) => writeln!(
+            lines,
+            "repeat {times} {} BY {} IN 1 KEY {} 255 LIST {}: {} WHERE {}",
+            number(s.kind),
+            s.level,
+            s.key,
+            s.list.len(),
+            listed(s.list),
+            listed(s.conditions)
+        ),
+    }
+    .expect("a string");
+    lines
+}
+
+fn listed<T: ToString>(numbers: &[T]) -> String {
+    numbers.iter().map(|n| n.to_string()).collect::<Vec<String>>().join(" ")
 }
