@@ -1,4 +1,5 @@
 pub mod Answers
+pub mod Ended
 pub mod Known
 pub mod Numbers
 pub mod Pairs

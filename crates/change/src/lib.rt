@@ -1,2 +1,3 @@
-// What the five statements share: the rows that references name, and what each statement promises.
+// What the five statements share: how tests end, the rows that references name, and what each statement promises.
 pub mod named;
+pub mod tests;

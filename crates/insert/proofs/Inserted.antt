@@ -1,4 +1,4 @@
--- INSERT: when it is well formed, its tests in their order, and the tables that it leaves.
+-- INSERT: when it is well formed, its tests, and the tables that it leaves.
 -- Assumes nothing.
 use Prim.Native.Nat.{ℕ, _%_, _≤_, _<_}
 use mathlib.Core.Path.{_≡_, refl, sym, ap, ap₂, _∙_}
@@ -8,12 +8,11 @@ use mathlib.Core.Logic.{_≢_}
 use mathlib.Core.Option.{Option, none, some}
 use lib.Dec.{eqb, ltb}
 use lib.ListN.{length}
-use borrow.Author.Tests.{eq-eqb, ne-eqb, eqb-true, lt-ltb, le-ltb}
+use borrow.Author.Tests.{eq-eqb, ne-eqb, eqb-true, ltb-true}
 use Rattle.bounded.specs.Tests.{if_then_else_}
 use Rattle.bounded.proofs.Cases.{cases, clash}
 use Rattle.bounded.proofs.Reflection.{is-false, of-true, of-false, bool-r, not-r, and-r, eqb-r}
 use Rattle.model.specs.declared.Description.{Description}
-use Rattle.model.specs.declared.Fault.the-variants as Faults
 use Rattle.model.specs.declared.Answer.the-variants as Answers
 use Rattle.model.specs.Description.{between, isColumn, columnCount, inRange}
 use Rattle.model.specs.Tables.{Row, State, rowsOf, cell, nocell, ownNull, used, at}
@@ -29,10 +28,11 @@ use Rattle.cells.specs.declared.layout.Part.{Part}
 use Rattle.cells.proofs.Cells.{state-path}
 use Rattle.asked.specs.declared.pairs.Rule.the-variants as Rules
 use Rattle.asked.specs.Facts.{ruleOf}
+use Rattle.theory.proofs.Accepted.{passed}
 use Rattle.theory.proofs.Listed.{each-listed}
 use Rattle.theory.proofs.Seen.{seen-at, seen-own}
-use Rattle.change.specs.Facts.{Standing, Filled, Inserts, refuses, does, sight, valueListed}
-use Rattle.change.proofs.Answers.{first-fails, first-passes, first-none, listed-seen, left-own, left-still}
+use Rattle.change.specs.Facts.{Standing, Filled, Inserts, does, sight, valueListed}
+use Rattle.change.proofs.Answers.{listed-seen, left-own, left-still}
 use Rattle.change.proofs.Known.{own-over}
 use Rattle.change.proofs.Sought.{used-is}
 
@@ -140,7 +140,7 @@ module _ (d : Description) (c r : ℕ) (list : List ℕ) (b : Buffers) where
           (λ t. rw (t, ← (eqb-true c l t)) (own s i k ∙ sym (left-own d c E S s i k)))
           (λ t. rw t (sym (left-still d c E S (λ s v. refl) (λ s v k. refl) s l i k (λ q. of-false (eqb-r c l) t (sym q)))))
 
--- ---- its tests in their order, and what is answered
+-- ---- its tests, and what is answered
 
 module _ (d : Description) (r : ℕ) (list : List ℕ) (h : insertFormed d r list ≡ true) where
   says : (whole 2 list ≡ true) × ((each (λ k v. isColumn d r k) list ≡ true) × ((columnsOnce list ≡ true) × (keyListed list ≢ 0)))
@@ -159,59 +159,44 @@ module _ {d : Description} {order : List (List Bool)} {r c : ℕ} {p : Part} {vs
   abbrev T : State
   T = stateOf d (holding vs cs)
 
-  -- what was asked of each listed column
-  module _ {a : Bool} (e : a ≡ each (ruleOf d r (Rules.Takes c)) list) where
-    each-is : each (λ k v. inRange d r k c) list ≡ a
-    unfolding ruleOf
-    each-is = sym e
+  abbrev seeing : State
+  seeing = sight d c vs cs
 
-    pub insert-range : a ≡ false → Inserts d c r list vs cs vs cs (Answers.Refused Faults.Range)
+  own : seeing c .rows ≡ T c .rows
+  own = seen-own d T c (own-over K)
+
+  -- ---- each test is what was asked
+
+  pub range-test : {a : Bool} → a ≡ each (ruleOf d r (Rules.Takes c)) list → each (λ k v. inRange d r k c) list ≡ a
+  unfolding ruleOf
+  range-test e = sym e
+
+  pub taken-test : {key i : ℕ} → key ≡ valueListed list 1 → i ≡ keyPlace d vs r c key → not (used (at d (rowsOf seeing) r c (keyListed list))) ≡ not (ltb i (p .rows))
+  taken-test {i = i} x y =
+      ap not
+      (ap used (seen-at d T c r c (keyListed list) (own-over K))
+      ∙ sym (used-is d vs cs r c (keyListed list) (formed-keyed d r list formed-is) (y ∙ ap (keyPlace d vs r c) (x ∙ key-listed list)))
+      ∙ ap (ltb i) (sym (K .laid .rows)))
+
+  pub names-test : {b : Bool} → ((classes : List ℕ) → b ≡ listedNames d c r list (rowsOf (stateOf d (holding vs classes)))) → listedNames d c r list (rowsOf seeing) ≡ b
+  names-test z = listed-seen d c T (own-over K) r list ∙ sym (z cs)
+
+  module _ {row : ℕ} (q : row ≡ lowestEmpty d (T c .rows) r) where
+    pub room-test : hasRoom d (seeing c .rows) r ≡ ltb row (p .rows)
+    unfolding hasRoom
+    room-test = rw (own, ← q, K .laid .rows)
+
+    -- where no test fails there is a row
+    pub room : firstFault (insertTests d c r list seeing) ≡ none → row < p .rows
     unfolding insertTests
-    insert-range t = refuses Faults.Range (first-fails _ _ (each-is ∙ t)) refl refl refl
+    room n = ltb-true _ _ (sym room-test ∙ passed _ _ (passed _ _ (passed _ _ (passed _ _ n .1) .1) .1) .0)
 
-    -- where the key was found
-    module _ (t : a ≡ true) {key i : ℕ} (x : key ≡ valueListed list 1) (y : i ≡ keyPlace d vs r c key) where
-      used-is-not : not (used (at d (rowsOf (sight d c vs cs)) r c (keyListed list))) ≡ not (ltb i (p .rows))
-      used-is-not =
-          ap not
-          (ap used (seen-at d T c r c (keyListed list) (own-over K))
-          ∙ sym (used-is d vs cs r c (keyListed list) (formed-keyed d r list formed-is) (y ∙ ap (keyPlace d vs r c) (x ∙ key-listed list)))
-          ∙ ap (ltb i) (sym (K .laid .rows)))
-
-      pub insert-taken : i < p .rows → Inserts d c r list vs cs vs cs (Answers.Refused Faults.Taken)
-      unfolding insertTests
-      insert-taken h =
-          refuses Faults.Taken (first-passes _ _ (each-is ∙ t) ∙ first-fails _ _ (used-is-not ∙ rw (lt-ltb i (p .rows) h))) refl refl refl
-
-      -- whether the reference has its row
-      module _ (u : p .rows ≤ i) {b : Bool} (z : (classes : List ℕ) → b ≡ listedNames d c r list (rowsOf (stateOf d (holding vs classes)))) where
-        passed : firstFault (insertTests d c r list (sight d c vs cs)) ≡ firstFault ((listedNames d c r list (rowsOf (sight d c vs cs)), Faults.Reference) ∷ (hasRoom d (sight d c vs cs c .rows) r, Faults.Full) ∷ [])
-        unfolding insertTests
-        passed = first-passes _ _ (each-is ∙ t) ∙ first-passes _ _ (used-is-not ∙ rw (le-ltb i (p .rows) u))
-
-        names-is : listedNames d c r list (rowsOf (sight d c vs cs)) ≡ b
-        names-is = listed-seen d c T (own-over K) r list ∙ sym (z cs)
-
-        pub insert-reference : b ≡ false → Inserts d c r list vs cs vs cs (Answers.Refused Faults.Reference)
-        insert-reference w = refuses Faults.Reference (passed ∙ first-fails _ _ (names-is ∙ w)) refl refl refl
-
-        -- the row that is free
-        module _ (w : b ≡ true) {row : ℕ} (q : row ≡ lowestEmpty d (T c .rows) r) where
-          room-is : hasRoom d (sight d c vs cs c .rows) r ≡ ltb row (p .rows)
-          unfolding hasRoom
-          room-is = rw (seen-own d T c (own-over K), ← q, K .laid .rows)
-
-          pub insert-full : p .rows ≤ row → Inserts d c r list vs cs vs cs (Answers.Refused Faults.Full)
-          insert-full h =
-              refuses Faults.Full (passed ∙ first-passes _ _ (names-is ∙ w) ∙ first-fails _ _ (room-is ∙ le-ltb row (p .rows) h)) refl refl refl
-
-          pub insert-done : row < p .rows → {news owners us ds : List ℕ} → Filled (p .columns) (valueListed list) news
-              → Filled (p .columns) (λ k. newRow d c r list k .class) owners
-              → stateOf d (holding us ds) ≡ changeLevel c (withRow (columnCount d r) r row (listedRow news owners)) T
-              → Inserts d c r list vs cs us ds (Answers.Done 1)
-          insert-done h {news} {owners} F G m =
-              let B : sight d c vs cs c .rows ≡ T c .rows = seen-own d T c (own-over K) in
-              does (passed ∙ first-passes _ _ (names-is ∙ w) ∙ first-passes _ _ (room-is ∙ lt-ltb row (p .rows) h) ∙ first-none) refl
-              (m
-              ∙ insert-left d c r list (holding vs cs) (sight d c vs cs c .rows) row (listedRow news owners) B (q ∙ ap (λ (N : Rows). lowestEmpty d N r) (sym B))
-              (formed-columns d r list formed-is) (new-filled d c r list news owners (rw (K .laid .columns) at F) (rw (K .laid .columns) at G)))
+    pub insert-done : firstFault (insertTests d c r list seeing) ≡ none → {news owners us ds : List ℕ} → Filled (p .columns) (valueListed list) news
+        → Filled (p .columns) (λ k. newRow d c r list k .class) owners
+        → stateOf d (holding us ds) ≡ changeLevel c (withRow (columnCount d r) r row (listedRow news owners)) T
+        → Inserts d c r list vs cs us ds (Answers.Done 1)
+    insert-done n {news} {owners} F G m =
+        does n refl
+        (m
+        ∙ insert-left d c r list (holding vs cs) (seeing c .rows) row (listedRow news owners) own (q ∙ ap (λ (N : Rows). lowestEmpty d N r) (sym own))
+        (formed-columns d r list formed-is) (new-filled d c r list news owners (rw (K .laid .columns) at F) (rw (K .laid .columns) at G)))

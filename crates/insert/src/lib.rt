@@ -8,15 +8,20 @@ use cells::layout::Part;
 use cells::search::lowest;
 use cells::write::store;
 use change::named::listed;
+use change::tests::Test;
 use model::Answer;
 use model::Description;
 use model::Fault;
 ghost use mathlib.Core.Path.{_≡_};
 ghost use mathlib.Core.Bool.{true};
 ghost use Prim.Native.Nat.{_≤_};
-ghost use Rattle.model.specs.Insert.{insertFormed, newRow};
+ghost use Rattle.model.specs.Buffers.{holding, stateOf};
+ghost use Rattle.model.specs.Effect.{lowestEmpty};
+ghost use Rattle.model.specs.Insert.{insertFormed, insertTests, newRow};
+ghost use Rattle.cells.specs.Layout.{Row};
 ghost use Rattle.asked.specs.Facts.{Ordered, Related};
-ghost use Rattle.change.specs.Facts.{Standing, Inserts, Filled, valueListed};
+ghost use Rattle.change.specs.Facts.{Standing, Inserts, Filled, sight, valueListed};
+ghost use Rattle.change.specs.Tests.{ended};
 
 // Every column exists, none is listed twice, and the key is there.
 pub fn formed(
@@ -111,7 +116,41 @@ fn owners(
     owners
 }
 
-// The tests, in their order, and then the new row.
+// The tests, in their order, where the lowest empty row is row `row`.
+fn check(
+    values: &[u32],
+    classes: &[u8],
+    list: &[u32],
+    description: Description,
+    order: [[bool; 16]; 16],
+    relation: usize,
+    part: Part,
+    level: usize,
+    row: usize,
+) -> Test
+    requires { ⌜ Standing description order relation level part (now values) (now classes) × (insertFormed description relation (now list) ≡ true) ⌝ }
+    requires { ⌜ Row description relation (lowestEmpty description (stateOf description (holding (now values) (now classes)) level .rows) relation) row ⌝ }
+    ensures { λ r. ⌜ r ≡ ended (insertTests description level relation (now (list .entry)) (sight description level (now (values .entry)) (now (classes .entry)))) ⌝ }
+{
+    let columns = part.columns;
+    let rule = Rule::Takes { level: level };
+    if !each(list, description, order, relation, columns, rule) {
+        return Test::Failed(Fault::Range);
+    }
+    let key = value(list, 1);
+    if cells::search::find(values, description, relation, part, level, key) < part.rows {
+        return Test::Failed(Fault::Taken);
+    }
+    if !listed(values, list, description, relation, level) {
+        return Test::Failed(Fault::Reference);
+    }
+    if part.rows <= row {
+        return Test::Failed(Fault::Full);
+    }
+    Test::Passed
+}
+
+// The tests, and then the new row.
 pub fn insert(
     values: &mut [u32],
     classes: &mut [u8],
@@ -126,28 +165,22 @@ pub fn insert(
     requires { ⌜ insertFormed description relation (now list) ≡ true ⌝ }
     ensures { λ r. ⌜ Inserts description level relation (now (list .entry)) (now (values .entry)) (now (classes .entry)) (now (values .exit)) (now (classes .exit)) r ⌝ }
 {
-    let columns = part.columns;
-    if !each(
+    let row = lowest(values, classes, description, relation, part, level);
+    let test = check(
+        values,
+        classes,
         list,
         description,
         order,
         relation,
-        columns,
-        Rule::Takes { level: level },
-    ) {
-        return Answer::Refused(Fault::Range);
+        part,
+        level,
+        row,
+    );
+    if let Test::Failed(fault) = test {
+        return Answer::Refused(fault);
     }
-    let key = value(list, 1);
-    if cells::search::find(values, description, relation, part, level, key) < part.rows {
-        return Answer::Refused(Fault::Taken);
-    }
-    if !listed(values, list, description, relation, level) {
-        return Answer::Refused(Fault::Reference);
-    }
-    let row = lowest(values, classes, description, relation, part, level);
-    if part.rows <= row {
-        return Answer::Refused(Fault::Full);
-    }
+    let columns = part.columns;
     let news = news(list, columns);
     let owners = owners(list, description, order, relation, columns, level as u8);
     store(

@@ -5,7 +5,7 @@ use mathlib.Core.Path.{_≡_, refl, sym, ap, _∙_}
 use mathlib.Core.Bool.{Bool, true, false, not, _&&_, _||_}
 use mathlib.Core.List.{List, [], _∷_}
 use mathlib.Core.Logic.{_≢_}
-use mathlib.Core.Option.{Option, none, some}
+use mathlib.Core.Option.{none, some}
 use native.Mathlib.Omega.{arith}
 use lib.Dec.{eqb, ltb, leb}
 use borrow.Author.Tests.{eq-eqb, ne-eqb, lt-ltb, le-ltb, ltb-true, ltb-false, le-leb, lt-leb}
@@ -27,10 +27,10 @@ use Rattle.cells.specs.Changed.{keyPlace, entityPlace}
 use Rattle.asked.specs.declared.pairs.Rule.the-variants as Rules
 use Rattle.asked.specs.Facts.{ruleOf}
 use Rattle.theory.proofs.Seen.{seen-at, seen-own}
-use Rattle.uplevel.specs.declared.tests.Test.{Test}
-use Rattle.uplevel.specs.declared.tests.Test.the-variants as Tests
+use Rattle.change.specs.declared.tests.Test.the-variants as Tests
 use Rattle.change.specs.Facts.{Answered, refuses, does, sight, Uplevels}
-use Rattle.uplevel.specs.Raising.{classSeen, levelsSeen, laterTests, severalBased, entityTests, testOf, spotOf}
+use Rattle.change.specs.Tests.{testOf}
+use Rattle.uplevel.specs.Raising.{classSeen, levelsSeen, laterTests, severalBased, entityTests, spotOf}
 use Rattle.change.proofs.Sought.{used-is}
 use Rattle.change.proofs.Answers.{first-fails, first-passes}
 use Rattle.uplevel.proofs.Entities.{entity-is}
@@ -147,26 +147,8 @@ module _ (d : Description) (vs cs : List ℕ) (c r key class : ℕ) (list : List
   unfolding laterTests
   room n = ltb-true _ _ (sym full-test ∙ last-passes _ _ _ _ n)
 
--- ---- how tests end
+-- ---- one test before others
 
-module _ {o : Option Fault} {a : Test} (e : a ≡ testOf o) where
-  pub failed-by : {f : Fault} → a ≡ Tests.Failed f → o ≡ some f
-  unfolding testOf
-  failed-by {f} p = go o (sym e ∙ p)
-    where
-      go : (o : Option Fault) → testOf o ≡ Tests.Failed f → o ≡ some f
-      go none q = cc
-      go (some g) q = cc
-
-  pub passed-by : a ≡ Tests.Passed → o ≡ none
-  unfolding testOf
-  passed-by p = go o (sym e ∙ p)
-    where
-      go : (o : Option Fault) → testOf o ≡ Tests.Passed → o ≡ none
-      go none q = refl
-      go (some g) q = cc
-
--- one test before others
 module _ {d : Description} {c n : ℕ} {E : Effect} {vs cs : List ℕ} (f : Fault) (ts : List (Bool × Fault)) {b : Bool} where
   pub test-fails : b ≡ false → Answered d c ((b, f) ∷ ts) n E vs cs vs cs (Answers.Refused f)
   test-fails e = refuses f (first-fails f ts e) refl refl refl

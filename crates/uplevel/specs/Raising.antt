@@ -4,7 +4,6 @@ use mathlib.Core.Path.{_≡_}
 use mathlib.Core.Bool.{Bool, true, false, not, _&&_, _||_}
 use mathlib.Core.List.{List, [], _∷_}
 use mathlib.Core.Logic.{_≢_}
-use mathlib.Core.Option.{Option, none, some}
 use Prim.Native.Nat.{ℕ, _<_}
 use lib.Dec.{eqb, ltb, leb}
 use lib.ListN.{set, replicate}
@@ -22,8 +21,6 @@ use Rattle.cells.specs.declared.layout.Part.{Part}
 use Rattle.cells.specs.Layout.{Laid}
 use Rattle.above.specs.declared.Plan.{Plan}
 use Rattle.uplevel.specs.declared.made.News.{News}
-use Rattle.uplevel.specs.declared.tests.Test.{Test}
-use Rattle.uplevel.specs.declared.tests.Test.the-variants as Tests
 use Rattle.change.specs.Facts.{Filled}
 
 -- ---- what is known
@@ -74,11 +71,6 @@ entityTests d c r class entity list S =
     (based d c r (entity .value) (rowsOf S) (entity .class), Faults.Absent)
     ∷ (not (severalBased d c r (entity .value) class (rowsOf S)), Faults.Several)
     ∷ laterTests d c r entity list S
-
--- how tests end of which that is the first that fails
-unfoldable pub testOf : Option Fault → Test
-testOf none = Tests.Passed
-testOf (some f) = Tests.Failed f
 
 -- ---- the new row
 

@@ -6,6 +6,7 @@ use asked::pairs::each;
 use asked::pairs::find;
 use cells::layout::Part;
 use change::named::names;
+use change::tests::Test;
 use model::Description;
 use model::Fault;
 ghost use mathlib.Core.Path.{_≡_};
@@ -19,13 +20,8 @@ ghost use Rattle.model.specs.Run.{firstFault};
 ghost use Rattle.cells.specs.Layout.{Sized, InLevel, Row};
 ghost use Rattle.cells.specs.Changed.{keyPlace, entityPlace};
 ghost use Rattle.change.specs.Facts.{Standing, sight};
-ghost use Rattle.uplevel.specs.Raising.{Listing, Raising, laterTests, testOf};
-
-// How its tests end.
-pub enum Test {
-    Passed,
-    Failed(Fault),
-}
+ghost use Rattle.change.specs.Tests.{testOf};
+ghost use Rattle.uplevel.specs.Raising.{Listing, Raising, laterTests};
 
 // Whether a reference that is borrowed is null or has its row at the subject's level.
 fn borrowed(

@@ -1,9 +1,9 @@
-use mathlib.Core.Path.{refl}
 use native.Mathlib.Omega.{arith}
-use Rattle.change.specs.Facts.{refuses, does}
+use Rattle.change.specs.Facts.{does}
+use Rattle.change.proofs.Ended.{failed-answer, passed-by}
 use Rattle.change.proofs.Known.{lent, own-level, own-over}
 use Rattle.uplevel.proofs.Entities.{level-few}
-use Rattle.uplevel.proofs.Upfaults.{room, failed-by, passed-by}
+use Rattle.uplevel.proofs.Upfaults.{room}
 use borrow.Author.Needs.{needs}
 use Rattle.uplevel.proofs.raise.Statement.{statement}
 use Rattle.uplevel.proofs.raise.Tie as tie
@@ -45,7 +45,7 @@ same-length-2 c = search needs
 returns : tie.Need-returns
 returns c =
     let k = c .before .before .before in
-    refuses _ (failed-by (k .check .ensures) (c .before .test .given .1)) refl refl refl
+    failed-answer (k .check .ensures) (c .before .test .given .1)
 
 same-length-3 : tie.Need-same-length-3
 same-length-3 c = search needs
