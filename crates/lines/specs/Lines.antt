@@ -54,11 +54,15 @@ classText class = if eqb class 255 then dash ∷ [] else decimal class
 unfoldable pub cellText : ℕ → ℕ → List ℕ
 cellText value class = (space ∷ decimal value) ++ (slash ∷ classText class)
 
+-- the cells of a row, whose values and classes begin at two places of the output buffers
+abbrev pub cellTexts : ℕ → List ℕ → List ℕ → ℕ → ℕ → List ℕ
+cellTexts columns shown owners values classes = concatBelow columns (λ k. cellText (getD shown (values + k) 0) (getD owners (classes + k) 0))
+
 -- "a line a row, `r`, TC and cells": row i of the output buffers, which have for each row its values, and its classes then TC
 unfoldable pub rowLine : ℕ → List ℕ → List ℕ → ℕ → List ℕ
 rowLine columns shown owners i =
     (letterR ∷ space ∷ decimal (getD owners (i * (columns + 1) + columns) 0))
-    ++ (concatBelow columns (λ k. cellText (getD shown (i * columns + k) 0) (getD owners (i * (columns + 1) + k) 0)) ++ (newline ∷ []))
+    ++ (cellTexts columns shown owners (i * columns) (i * (columns + 1)) ++ (newline ∷ []))
 
 -- the lines of the rows, for a SELECT
 unfoldable pub rowLines : What → ℕ → ℕ → List ℕ → List ℕ → List ℕ

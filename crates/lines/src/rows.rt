@@ -7,7 +7,7 @@ ghost use mathlib.Core.Path.{_≡_};
 ghost use lib.ListN.{getD};
 ghost use Prim.Native.Nat.{_+_, _*_, _<_, _≤_, _^_};
 ghost use Rattle.bounded.specs.Lists.{concatBelow};
-ghost use Rattle.lines.specs.Lines.{classText, cellText, rowLine};
+ghost use Rattle.lines.specs.Lines.{classText, cellText, cellTexts, rowLine};
 ghost use Rattle.lines.specs.Written.{Wrote};
 
 // The value at a place of the output; 0 behind its end.
@@ -62,7 +62,7 @@ fn cells(
     classes: usize,
 ) -> usize
     requires { ⌜ (at < 2 ^ 59) × (columns < 2 ^ 16) × (values < 2 ^ 60) × (classes < 2 ^ 60) ⌝ }
-    ensures { λ r. ⌜ Wrote at (concatBelow columns (λ k. cellText (getD (now (shown .entry)) (values + k) 0) (getD (now (owners .entry)) (classes + k) 0))) (now (text .entry)) (now (text .exit)) r × (r ≤ at + 64 * columns) ⌝ }
+    ensures { λ r. ⌜ Wrote at (cellTexts columns (now (shown .entry)) (now (owners .entry)) values classes) (now (text .entry)) (now (text .exit)) r × (r ≤ at + 64 * columns) ⌝ }
 {
     let mut next = at;
     let mut k = 0;

@@ -6,16 +6,14 @@ use mathlib.Core.Bool.{true, false}
 use mathlib.Core.List.{List, [], _∷_, _++_}
 use lib.ListN.{take, replicate}
 use Rattle.bounded.specs.Bounded.{foldBelow}
-use Rattle.bounded.specs.Lists.{listBelow, concatBelow, writeAt}
-use Rattle.model.specs.Description.{between}
 use Rattle.model.specs.declared.What.the-variants as Whats
 use Rattle.model.specs.declared.Description.{Description}
 use Rattle.records.specs.declared.Read.{Read}
 use Rattle.records.specs.declared.Read.the-variants as Reads
-use Rattle.records.specs.Bytes.{pair, quad, fieldsFrom, cellsFrom, testsFrom}
-use Rattle.records.specs.Record.{sizeOf, whole, follows, kindAfter}
-use Rattle.records.specs.Statements.{whatOf, statementOf, hasCells, listOf, listEnd, hasConditions, conditionCount, conditionsOf, lengthAsked, isStatement, readOf, listRead, conditionsRead}
-use Rattle.records.specs.Descriptions.{nothing, isLabels, labelCount, labelAt, labelsOf, labelled, isRelated, ends, withRelation, overfull, related}
+use Rattle.records.specs.Record.{kindAfter}
+use Rattle.records.specs.Statements.{readOf, listRead, conditionsRead}
+use Rattle.records.specs.Descriptions.{nothing, isLabels, labelled, isRelated, related}
+use Rattle.records.proofs.Computed.{decoded}
 
 -- ---- "Input, in hex"
 
@@ -54,7 +52,7 @@ kinds last [] = []
 kinds last (r ∷ rs) = kindAfter last r ∷ kinds (kindAfter last r) rs
 
 in-order : kinds 0 (labels ∷ relation ∷ insert ∷ uplevel ∷ select ∷ []) ≡ 1 ∷ 2 ∷ 16 ∷ 19 ∷ 20 ∷ []
-unfolding kindAfter whole sizeOf follows between pair
+unfolding decoded
 in-order = refl
 
 -- a record of some kind with no body
@@ -63,17 +61,17 @@ bare k = 0 ∷ 0 ∷ k ∷ 0 ∷ []
 
 -- "out of order, of unknown kind": a statement first, a second kind 1, kind 2 after kind 3, kind 3 after a statement, kinds 0, 4, 15 and 21
 out-of-order : kindAfter 0 insert ∷ kindAfter 1 labels ∷ kindAfter 3 relation ∷ kindAfter 16 (bare 3) ∷ kindAfter 20 (bare 0) ∷ kindAfter 20 (bare 4) ∷ kindAfter 20 (bare 15) ∷ kindAfter 20 (bare 21) ∷ [] ≡ replicate 8 0
-unfolding kindAfter whole sizeOf follows between pair
+unfolding decoded
 out-of-order = refl
 
 -- "cut": no header, a byte short; a byte too many
 cut : kindAfter 2 [] ∷ kindAfter 2 (take 3 insert) ∷ kindAfter 2 (take 21 insert) ∷ kindAfter 2 (insert ++ (0 ∷ [])) ∷ [] ≡ replicate 4 0
-unfolding kindAfter whole sizeOf follows between pair
+unfolding decoded
 cut = refl
 
 -- "a body over 1,024 bytes": 1,024 are accepted, 1,025 are not
 longest : kindAfter 0 (0 ∷ 4 ∷ 1 ∷ 0 ∷ replicate 1024 0) ∷ kindAfter 0 (1 ∷ 4 ∷ 1 ∷ 0 ∷ replicate 1025 0) ∷ [] ≡ 1 ∷ 0 ∷ []
-unfolding kindAfter whole sizeOf follows between pair
+unfolding decoded
 longest = refl
 
 -- ---- what the statements are
@@ -84,44 +82,44 @@ record Told (bytes : List ℕ) (answer : Read) (list conditions : List ℕ) : Ty
   conditions-is : conditionsRead bytes ≡ conditions
 
 insert-told : Told insert (Reads.Statement (record { level = 0; relation = 1; what = Whats.Insert }) 4 0) (1 ∷ 7 ∷ 2 ∷ 20 ∷ []) []
-unfolding readOf listRead conditionsRead isStatement statementOf whatOf hasCells listOf listEnd hasConditions conditionCount conditionsOf lengthAsked whole sizeOf between pair quad fieldsFrom cellsFrom testsFrom listBelow concatBelow
+unfolding decoded
 insert-told = record { answer-is = refl; list-is = refl; conditions-is = refl }
 
 uplevel-told : Told uplevel (Reads.Statement (record { level = 1; relation = 1; what = (Whats.Uplevel 7 255) }) 2 0) (2 ∷ 0 ∷ []) []
-unfolding readOf listRead conditionsRead isStatement statementOf whatOf hasCells listOf listEnd hasConditions conditionCount conditionsOf lengthAsked whole sizeOf between pair quad fieldsFrom cellsFrom testsFrom listBelow concatBelow
+unfolding decoded
 uplevel-told = record { answer-is = refl; list-is = refl; conditions-is = refl }
 
 select-told : Told select (Reads.Statement (record { level = 1; relation = 1; what = Whats.Select }) 2 0) (1 ∷ 0 ∷ []) []
-unfolding readOf listRead conditionsRead isStatement statementOf whatOf hasCells listOf listEnd hasConditions conditionCount conditionsOf lengthAsked whole sizeOf between pair quad fieldsFrom cellsFrom testsFrom listBelow concatBelow
+unfolding decoded
 select-told = record { answer-is = refl; list-is = refl; conditions-is = refl }
 
 update-told : Told update (Reads.Statement (record { level = 3; relation = 1; what = Whats.Update }) 2 4) (3 ∷ 32 ∷ []) (2 ∷ 0 ∷ 1 ∷ 70000 ∷ [])
-unfolding readOf listRead conditionsRead isStatement statementOf whatOf hasCells listOf listEnd hasConditions conditionCount conditionsOf lengthAsked whole sizeOf between pair quad fieldsFrom cellsFrom testsFrom listBelow concatBelow
+unfolding decoded
 update-told = record { answer-is = refl; list-is = refl; conditions-is = refl }
 
 delete-told : Told delete (Reads.Statement (record { level = 3; relation = 1; what = Whats.Delete }) 0 4) [] (2 ∷ 0 ∷ 1 ∷ 70000 ∷ [])
-unfolding readOf listRead conditionsRead isStatement statementOf whatOf hasCells listOf listEnd hasConditions conditionCount conditionsOf lengthAsked whole sizeOf between pair quad fieldsFrom cellsFrom testsFrom listBelow concatBelow
+unfolding decoded
 delete-told = record { answer-is = refl; list-is = refl; conditions-is = refl }
 
 -- no statement, "cut", and a count that the body cannot hold or that leaves bytes over
 labels-told : Told labels (Reads.Refused 9) [] []
-unfolding readOf listRead conditionsRead isStatement statementOf whatOf hasCells listOf listEnd hasConditions conditionCount conditionsOf lengthAsked whole sizeOf between pair quad fieldsFrom cellsFrom testsFrom listBelow concatBelow
+unfolding decoded
 labels-told = record { answer-is = refl; list-is = refl; conditions-is = refl }
 
 cut-told : Told (take 21 insert) (Reads.Refused 9) [] []
-unfolding readOf listRead conditionsRead isStatement statementOf whatOf hasCells listOf listEnd hasConditions conditionCount conditionsOf lengthAsked whole sizeOf between pair quad fieldsFrom cellsFrom testsFrom listBelow concatBelow
+unfolding decoded
 cut-told = record { answer-is = refl; list-is = refl; conditions-is = refl }
 
 over-told : Told (insert ++ (0 ∷ [])) (Reads.Refused 9) [] []
-unfolding readOf listRead conditionsRead isStatement statementOf whatOf hasCells listOf listEnd hasConditions conditionCount conditionsOf lengthAsked whole sizeOf between pair quad fieldsFrom cellsFrom testsFrom listBelow concatBelow
+unfolding decoded
 over-told = record { answer-is = refl; list-is = refl; conditions-is = refl }
 
 three-told : Told (take 8 insert ++ (3 ∷ replicate 13 0)) (Reads.Refused 9) [] []
-unfolding readOf listRead conditionsRead isStatement statementOf whatOf hasCells listOf listEnd hasConditions conditionCount conditionsOf lengthAsked whole sizeOf between pair quad fieldsFrom cellsFrom testsFrom listBelow concatBelow
+unfolding decoded
 three-told = record { answer-is = refl; list-is = refl; conditions-is = refl }
 
 one-told : Told (take 8 insert ++ (1 ∷ replicate 13 0)) (Reads.Refused 9) [] []
-unfolding readOf listRead conditionsRead isStatement statementOf whatOf hasCells listOf listEnd hasConditions conditionCount conditionsOf lengthAsked whole sizeOf between pair quad fieldsFrom cellsFrom testsFrom listBelow concatBelow
+unfolding decoded
 one-told = record { answer-is = refl; list-is = refl; conditions-is = refl }
 
 -- ---- the description
@@ -141,16 +139,16 @@ described names count columns rows high =
     }
 
 two-levels : labelled nothing labels ≡ described (0 ∷ 1 ∷ replicate 14 0) 0 (replicate 9 0) (replicate 9 0) (replicate 81 0)
-unfolding nothing labelled labelsOf labelAt labelCount listBelow pair
+unfolding decoded
 two-levels = refl
 
 one-relation : related (labelled nothing labels) relation ≡ described (0 ∷ 1 ∷ replicate 14 0) 1 (0 ∷ 2 ∷ replicate 7 0) (0 ∷ 2 ∷ replicate 7 0) (replicate 10 0 ++ (1 ∷ 1 ∷ replicate 69 0))
-unfolding nothing labelled labelsOf labelAt labelCount related withRelation ends listBelow writeAt pair
+unfolding decoded
 one-relation = refl
 
 -- lengths: labels are two bytes each, a relation has 8 bytes and 4 for each column
 lengths-asked : isLabels labels ∷ isLabels (take 7 labels) ∷ isRelated relation ∷ isRelated (take 19 relation) ∷ isRelated labels ∷ [] ≡ true ∷ false ∷ true ∷ false ∷ false ∷ []
-unfolding isLabels isRelated pair
+unfolding decoded
 lengths-asked = refl
 
 -- eight relations are held, a ninth is only counted
@@ -158,9 +156,9 @@ abbrev after : ℕ → Description
 after n = foldBelow n (λ i d. related d relation) nothing
 
 eight : after 8 .relations ∷ after 9 .relations ∷ after 10 .relations ∷ after 8 .columns ≡ 8 ∷ 9 ∷ 9 ∷ 0 ∷ replicate 8 2
-unfolding foldBelow nothing related withRelation overfull ends listBelow writeAt pair
+unfolding decoded
 eight = refl
 
 ninth : after 9 .columns ∷ after 9 .high ∷ [] ≡ after 8 .columns ∷ after 8 .high ∷ []
-unfolding foldBelow nothing related withRelation overfull ends listBelow writeAt pair
+unfolding decoded
 ninth = refl

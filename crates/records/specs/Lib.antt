@@ -1,4 +1,5 @@
 pub mod Bytes
+pub mod Kinds
 pub mod Record
 pub mod Statements
 pub mod Descriptions

@@ -8,6 +8,7 @@ use lib.ListN.{length}
 use Rattle.bounded.specs.Tests.{if_then_else_}
 use Rattle.model.specs.Description.{between}
 use Rattle.records.specs.Bytes.{pair}
+use Rattle.records.specs.Kinds.{isKind}
 
 -- how many bytes a record has by its header
 unfoldable pub sizeOf : List ℕ → ℕ
@@ -23,7 +24,7 @@ follows last kind =
     if eqb kind 1 then eqb last 0
     else if eqb kind 2 then between 1 2 last
     else if eqb kind 3 then between 1 3 last
-    else between 16 20 kind && ltb 0 last
+    else isKind kind && ltb 0 last
 
 -- the kind of a record that is whole and in order, 0 of any other
 unfoldable pub kindAfter : ℕ → List ℕ → ℕ

@@ -1,22 +1,28 @@
 -- A record read to a statement or to its place of refusal (01, "mlrun"). Places count from the record's first byte, its header included.
 -- Assumes nothing: these are definitions.
 use Prim.Native.Nat.{ℕ, _+_, _*_}
-use mathlib.Core.Bool.{Bool, _&&_, _||_}
+use mathlib.Core.Bool.{Bool, _&&_}
 use mathlib.Core.List.{List, []}
 use lib.Dec.{eqb}
 use lib.ListN.{length}
 use Rattle.bounded.specs.Tests.{if_then_else_}
-use Rattle.model.specs.Description.{between}
 use Rattle.model.specs.declared.What.{What}
 use Rattle.model.specs.declared.What.the-variants as Whats
 use Rattle.model.specs.declared.Statement.{Statement}
+use Rattle.records.specs.declared.kinds.Entry.{Entry}
+use Rattle.records.specs.declared.kinds.Entry.the-variants as Entries
+use Rattle.records.specs.declared.kinds.Form.{Form}
 use Rattle.records.specs.declared.Read.{Read}
 use Rattle.records.specs.declared.Read.the-variants as Reads
 use Rattle.records.specs.Bytes.{pair, quad, fieldsFrom, cellsFrom, testsFrom}
 use Rattle.records.specs.Record.{whole}
+use Rattle.records.specs.Kinds.{isKind, formOf}
 
 abbrev pub kind : List ℕ → ℕ
 kind bytes = pair bytes 2
+
+abbrev pub form : List ℕ → Form
+form bytes = formOf (kind bytes)
 
 -- what the statement asks for, by its kind
 unfoldable pub whatOf : List ℕ → What
@@ -31,49 +37,44 @@ whatOf bytes =
 unfoldable pub statementOf : List ℕ → Statement
 statementOf bytes = record { level = pair bytes 4; relation = pair bytes 6; what = whatOf bytes }
 
--- ---- its list
+-- ---- its lists: "n, n of .."
 
--- whether it is of columns and values
-unfoldable pub hasCells : List ℕ → Bool
-hasCells bytes = eqb (kind bytes) 16 || eqb (kind bytes) 18
+-- where a list ends that begins at a place
+unfoldable pub endOf : List ℕ → Entry → ℕ → ℕ
+endOf bytes Entries.None at = at
+endOf bytes Entries.Level at = at + 2 + 2 * pair bytes at
+endOf bytes Entries.Borrow at = at + 2 + 4 * pair bytes at
+endOf bytes Entries.Cell at = at + 2 + 6 * pair bytes at
+endOf bytes Entries.Condition at = at + 2 + 10 * pair bytes at
 
--- "16 INSERT: level, relation, n, n of (column, value)"; "18 UPDATE: as 16, then conditions";
--- "19 UPLEVEL: level, relation, key, key class or 255, n, n of (column, FROM)"; "20 SELECT: level, relation, n, n levels, conditions"
+-- its numbers
+unfoldable pub numbersOf : List ℕ → Entry → ℕ → List ℕ
+numbersOf bytes Entries.None at = []
+numbersOf bytes Entries.Level at = fieldsFrom bytes (at + 2) (pair bytes at)
+numbersOf bytes Entries.Borrow at = fieldsFrom bytes (at + 2) (2 * pair bytes at)
+numbersOf bytes Entries.Cell at = cellsFrom bytes (at + 2) (pair bytes at)
+numbersOf bytes Entries.Condition at = testsFrom bytes (at + 2) (pair bytes at)
+
+-- the statement's list, and where it ends
 unfoldable pub listOf : List ℕ → List ℕ
-listOf bytes =
-    if hasCells bytes then cellsFrom bytes 10 (pair bytes 8)
-    else if eqb (kind bytes) 19 then fieldsFrom bytes 16 (2 * pair bytes 14)
-    else if eqb (kind bytes) 20 then fieldsFrom bytes 10 (pair bytes 8)
-    else []
+listOf bytes = numbersOf bytes (form bytes .list) (form bytes .at)
 
--- where the list ends; "17 DELETE: level, relation, conditions" has none
 unfoldable pub listEnd : List ℕ → ℕ
-listEnd bytes =
-    if hasCells bytes then 10 + 6 * pair bytes 8
-    else if eqb (kind bytes) 19 then 16 + 4 * pair bytes 14
-    else if eqb (kind bytes) 20 then 10 + 2 * pair bytes 8
-    else 8
+listEnd bytes = endOf bytes (form bytes .list) (form bytes .at)
 
--- ---- its conditions: "n, n of (column, 0 value or 1 class, test, constant)"
-
-unfoldable pub hasConditions : List ℕ → Bool
-hasConditions bytes = eqb (kind bytes) 17 || (eqb (kind bytes) 18 || eqb (kind bytes) 20)
-
-unfoldable pub conditionCount : List ℕ → ℕ
-conditionCount bytes = if hasConditions bytes then pair bytes (listEnd bytes) else 0
-
+-- "Conditions: n, n of (column, 0 value or 1 class, test, constant)": the list behind it
 unfoldable pub conditionsOf : List ℕ → List ℕ
-conditionsOf bytes = testsFrom bytes (listEnd bytes + 2) (conditionCount bytes)
+conditionsOf bytes = numbersOf bytes (form bytes .conditions) (listEnd bytes)
 
 -- ---- the whole
 
 -- the length that the kind and its counts ask
 unfoldable pub lengthAsked : List ℕ → ℕ
-lengthAsked bytes = if hasConditions bytes then listEnd bytes + 2 + 10 * conditionCount bytes else listEnd bytes
+lengthAsked bytes = endOf bytes (form bytes .conditions) (listEnd bytes)
 
 -- a whole record of a statement's kind and "of wrong length" in nothing
 unfoldable pub isStatement : List ℕ → Bool
-isStatement bytes = whole bytes && (between 16 20 (kind bytes) && eqb (length bytes) (lengthAsked bytes))
+isStatement bytes = whole bytes && (isKind (kind bytes) && eqb (length bytes) (lengthAsked bytes))
 
 -- "a record is read to a statement or to its place of refusal": the statement and how many numbers its list and its conditions have, or the
 -- number of the record

@@ -1,6 +1,7 @@
 // mlrun's records, read one at a time.
 pub mod bytes;
 pub mod descriptions;
+mod kinds;
 pub mod statement;
 pub mod whole;
 

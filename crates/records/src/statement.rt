@@ -4,17 +4,18 @@ use crate::bytes::count;
 use crate::bytes::field;
 use crate::bytes::pair;
 use crate::bytes::quad;
-use crate::whole::between;
+use crate::kinds::Entry;
+use crate::kinds::form_of;
+use crate::kinds::is_kind;
 use crate::whole::is_whole;
 use model::Statement;
 use model::What;
 ghost use mathlib.Core.Path.{_≡_};
-ghost use mathlib.Core.Bool.{true};
-ghost use Prim.Native.Nat.{_*_, _≤_};
+ghost use Prim.Native.Nat.{_+_, _*_, _≤_};
 ghost use lib.ListN.{length};
 ghost use Rattle.bounded.specs.Lists.{writeAt};
 ghost use Rattle.records.specs.Bytes.{fieldsFrom, cellsFrom, testsFrom};
-ghost use Rattle.records.specs.Statements.{whatOf, hasCells, listOf, listEnd, hasConditions, conditionCount, conditionsOf, lengthAsked, isStatement};
+ghost use Rattle.records.specs.Statements.{whatOf, endOf, numbersOf, lengthAsked, isStatement};
 ghost use Rattle.records.specs.Facts.{Filled, Reading};
 
 // ---- what its kind and its counts say
@@ -41,68 +42,30 @@ fn what(bytes: &[u8]) -> What
     What::Select
 }
 
-// Whether the list is of columns and values.
-fn has_cells(bytes: &[u8]) -> bool
-    ensures { λ r. ⌜ r ≡ hasCells (now (bytes .entry)) ⌝ }
+// Where a list ends that begins at a place.
+fn list_end(bytes: &[u8], entry: Entry, at: usize) -> usize
+    requires { ⌜ at ≤ 1000000 ⌝ }
+    ensures { λ r. ⌜ (r ≡ endOf (now (bytes .entry)) entry at) × (r ≤ at + 655352) ⌝ }
 {
-    let kind = pair(bytes, 2);
-    if kind == 16 {
-        return true;
+    let n = count(bytes, at);
+    match entry {
+        Entry::None => at,
+        Entry::Level => at + 2 + 2 * n,
+        Entry::Borrow => at + 2 + 4 * n,
+        Entry::Cell => at + 2 + 6 * n,
+        Entry::Condition => at + 2 + 10 * n,
     }
-    kind == 18
-}
-
-// Where the list ends.
-fn list_end(bytes: &[u8]) -> usize
-    ensures { λ r. ⌜ (r ≡ listEnd (now (bytes .entry))) × (r ≤ 400000) ⌝ }
-{
-    if has_cells(bytes) {
-        return 10 + 6 * count(bytes, 8);
-    }
-    let kind = pair(bytes, 2);
-    if kind == 19 {
-        return 16 + 4 * count(bytes, 14);
-    }
-    if kind == 20 {
-        return 10 + 2 * count(bytes, 8);
-    }
-    8
-}
-
-// Whether the kind has conditions.
-fn has_conditions(bytes: &[u8]) -> bool
-    ensures { λ r. ⌜ r ≡ hasConditions (now (bytes .entry)) ⌝ }
-{
-    let kind = pair(bytes, 2);
-    if kind == 17 {
-        return true;
-    }
-    if kind == 18 {
-        return true;
-    }
-    kind == 20
-}
-
-// How many conditions there are.
-fn condition_count(bytes: &[u8]) -> usize
-    ensures { λ r. ⌜ (r ≡ conditionCount (now (bytes .entry))) × (r ≤ 65535) ⌝ }
-{
-    if !has_conditions(bytes) {
-        return 0;
-    }
-    let end = list_end(bytes);
-    count(bytes, end)
 }
 
 // The length that the kind and its counts ask.
 fn length_asked(bytes: &[u8]) -> usize
     ensures { λ r. ⌜ r ≡ lengthAsked (now (bytes .entry)) ⌝ }
 {
-    let end = list_end(bytes);
-    if !has_conditions(bytes) {
-        return end;
-    }
-    end + 2 + 10 * condition_count(bytes)
+    let form = form_of(pair(bytes, 2));
+    let list = form.list;
+    let conditions = form.conditions;
+    let end = list_end(bytes, list, form.at);
+    list_end(bytes, conditions, end)
 }
 
 // Whether the record is whole, of a statement's kind and of the length that it asks.
@@ -112,7 +75,7 @@ fn is_statement(bytes: &[u8]) -> bool
     if !is_whole(bytes) {
         return false;
     }
-    if !between(16, 20, pair(bytes, 2)) {
+    if !is_kind(pair(bytes, 2)) {
         return false;
     }
     bytes.len() == length_asked(bytes)
@@ -160,38 +123,31 @@ fn tests(bytes: &[u8], list: &mut [u32], at: usize, n: usize)
     }
 }
 
-// The statement's list; how many numbers it has.
-fn fill_list(bytes: &[u8], list: &mut [u32]) -> usize
-    requires { ⌜ (isStatement (now bytes) ≡ true) × (length (now list) ≡ 512) ⌝ }
-    ensures { λ r. ⌜ Filled (listOf (now (bytes .entry))) (now (list .entry)) (now (list .exit)) r ⌝ }
+// The numbers of a list that begins at a place; how many they are.
+fn fill(bytes: &[u8], list: &mut [u32], entry: Entry, at: usize) -> usize
+    requires { ⌜ (8 ≤ at) × ((endOf (now bytes) entry at ≤ 1028) × (length (now list) ≡ 512)) ⌝ }
+    ensures { λ r. ⌜ Filled (numbersOf (now (bytes .entry)) entry at) (now (list .entry)) (now (list .exit)) r ⌝ }
 {
-    let n = count(bytes, 8);
-    if has_cells(bytes) {
-        cells(bytes, list, 10, n);
-        return 2 * n;
+    let n = count(bytes, at);
+    match entry {
+        Entry::None => 0,
+        Entry::Level => {
+            fields(bytes, list, at + 2, n);
+            n
+        }
+        Entry::Borrow => {
+            fields(bytes, list, at + 2, 2 * n);
+            2 * n
+        }
+        Entry::Cell => {
+            cells(bytes, list, at + 2, n);
+            2 * n
+        }
+        Entry::Condition => {
+            tests(bytes, list, at + 2, n);
+            4 * n
+        }
     }
-    let kind = pair(bytes, 2);
-    if kind == 19 {
-        let twice = 2 * count(bytes, 14);
-        fields(bytes, list, 16, twice);
-        return twice;
-    }
-    if kind == 20 {
-        fields(bytes, list, 10, n);
-        return n;
-    }
-    0
-}
-
-// The statement's conditions; how many numbers they have.
-fn fill_conditions(bytes: &[u8], conditions: &mut [u32]) -> usize
-    requires { ⌜ (isStatement (now bytes) ≡ true) × (length (now conditions) ≡ 512) ⌝ }
-    ensures { λ r. ⌜ Filled (conditionsOf (now (bytes .entry))) (now (conditions .entry)) (now (conditions .exit)) r ⌝ }
-{
-    let at = list_end(bytes);
-    let n = condition_count(bytes);
-    tests(bytes, conditions, at + 2, n);
-    4 * n
 }
 
 // The statement that a record holds, its list and its conditions in what is lent; or the record's number.
@@ -206,8 +162,12 @@ pub fn statement(
     if !is_statement(bytes) {
         return Read::Refused(number);
     }
-    let listed = fill_list(bytes, list);
-    let tested = fill_conditions(bytes, conditions);
+    let form = form_of(pair(bytes, 2));
+    let entry = form.list;
+    let test = form.conditions;
+    let listed = fill(bytes, list, entry, form.at);
+    let end = list_end(bytes, entry, form.at);
+    let tested = fill(bytes, conditions, test, end);
     let level = pair(bytes, 4);
     let relation = pair(bytes, 6);
     let what = what(bytes);

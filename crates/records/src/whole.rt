@@ -1,8 +1,9 @@
 // A record's header, and the order of the records.
 use crate::bytes::count;
 use crate::bytes::pair;
+use crate::kinds::between;
+use crate::kinds::is_kind;
 ghost use mathlib.Core.Path.{_≡_};
-ghost use Rattle.model.specs.Description.{between as betweenOf};
 ghost use Rattle.records.specs.Record.{whole as wholeOf, follows as followsOf, kindAfter};
 
 // Whether a record is neither cut nor longer than its header says, with a body of at most 1,024 bytes.
@@ -19,16 +20,6 @@ pub(crate) fn is_whole(bytes: &[u8]) -> bool
     bytes.len() == 4 + body
 }
 
-// Whether a number is in a range.
-pub(crate) fn between(low: u16, high: u16, n: u16) -> bool
-    ensures { λ r. ⌜ r ≡ betweenOf low high n ⌝ }
-{
-    if n < low {
-        return false;
-    }
-    n <= high
-}
-
 // Whether a kind is known and may come after the last one, 0 where none has come.
 fn follows(last: u16, kind: u16) -> bool
     ensures { λ r. ⌜ r ≡ followsOf last kind ⌝ }
@@ -42,7 +33,7 @@ fn follows(last: u16, kind: u16) -> bool
     if kind == 3 {
         return between(1, 3, last);
     }
-    if !between(16, 20, kind) {
+    if !is_kind(kind) {
         return false;
     }
     0 < last

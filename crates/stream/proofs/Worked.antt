@@ -4,10 +4,7 @@ use Prim.Native.Nat.{ℕ}
 use mathlib.Core.Path.{_≡_, refl}
 use mathlib.Core.List.{List, [], _∷_, _++_}
 use Rattle.model.proofs.Computed.{computed}
-use Rattle.records.specs.Bytes.{pair, quad, fieldsFrom, cellsFrom, testsFrom}
-use Rattle.records.specs.Record.{sizeOf, whole, follows, kindAfter}
-use Rattle.records.specs.Statements.{whatOf, statementOf, hasCells, listOf, listEnd, hasConditions, conditionCount, conditionsOf, lengthAsked, isStatement, readOf}
-use Rattle.records.specs.Descriptions.{nothing, isLabels, labelCount, labelAt, labelsOf, labelled, isRelated, ends, withRelation, related}
+use Rattle.records.proofs.Computed.{decoded}
 use Rattle.lines.specs.Text.{digit, digitsIn, decimal}
 use Rattle.lines.specs.Lines.{kindOf, answerLine, classText, cellText, rowLine, rowLines, answerText, refusalText}
 use Rattle.stream.specs.Step.{extentOf, lent, keeping, describing, refuses, silent, labelsTurn, relationTurn, call, answered, statementTurn, turnOf, step}
@@ -54,10 +51,10 @@ abbrev high : List ℕ
 high = 114 ∷ 32 ∷ 49 ∷ 32 ∷ 55 ∷ 47 ∷ 48 ∷ 32 ∷ 50 ∷ 48 ∷ 47 ∷ 48 ∷ 10 ∷ []
 
 pub sample : printed (labels ++ (relation ++ (insert ++ (uplevel ++ select)))) ≡ inserted ++ (uplevelled ++ (selected ++ (low ++ high)))
-unfolding computed pair quad fieldsFrom cellsFrom testsFrom sizeOf whole follows kindAfter whatOf statementOf hasCells listOf listEnd hasConditions conditionCount conditionsOf lengthAsked isStatement readOf nothing isLabels labelCount labelAt labelsOf labelled isRelated ends withRelation related digit digitsIn decimal kindOf answerLine classText cellText rowLine rowLines answerText extentOf lent keeping describing silent labelsTurn relationTurn call answered statementTurn turnOf step start printedIn printed
+unfolding computed decoded digit digitsIn decimal kindOf answerLine classText cellText rowLine rowLines answerText extentOf lent keeping describing silent labelsTurn relationTurn call answered statementTurn turnOf step start printedIn printed
 sample = refl
 
 -- `x 2`: "A record out of order .. prints `x`, a space and its number from 1, and ends"
 pub out-of-order : printed (labels ++ (labels ++ labels)) ≡ 120 ∷ 32 ∷ 50 ∷ 10 ∷ []
-unfolding computed pair sizeOf whole follows kindAfter nothing isLabels labelCount labelAt labelsOf labelled digit digitsIn decimal refusalText describing refuses silent labelsTurn turnOf step start printedIn printed
+unfolding computed decoded digit digitsIn decimal refusalText describing refuses silent labelsTurn turnOf step start printedIn printed
 out-of-order = refl

@@ -14,14 +14,14 @@ returns c = rw (← (c .before .is-whole .ensures), not-true (c .before .is-whol
 pair-requires : tie.Need-pair-requires
 pair-requires c κs = search needs
 
-between-requires : tie.Need-between-requires
-between-requires c κs = search needs
+is-kind-requires : tie.Need-is-kind-requires
+is-kind-requires c κs = search needs
 
 returns-2 : tie.Need-returns-2
 unfolding isStatement
 returns-2 c =
     let e = c .before .before .before in
-    rw (← (e .before .is-whole .ensures), not-false (e .before .is-whole .result) (e .if1 .left), ← (c .before .before .pair .ensures), ← (c .before .between .ensures), not-true (c .before .between .result) (c .if2 .taken))
+    rw (← (e .before .is-whole .ensures), not-false (e .before .is-whole .result) (e .if1 .left), ← (c .before .before .pair .ensures), ← (c .before .is-kind .ensures), not-true (c .before .is-kind .result) (c .if2 .taken))
 
 length-asked-requires : tie.Need-length-asked-requires
 length-asked-requires c κs = search needs
@@ -30,7 +30,7 @@ returns-3 : tie.Need-returns-3
 unfolding isStatement
 returns-3 c =
     let e = c .before .before .before .before in
-    rw (← (e .before .is-whole .ensures), not-false (e .before .is-whole .result) (e .if1 .left), ← (c .before .before .before .pair .ensures), ← (c .before .before .between .ensures), not-false (c .before .before .between .result) (c .before .if2 .left), c .length-asked .ensures)
+    rw (← (e .before .is-whole .ensures), not-false (e .before .is-whole .result) (e .if1 .left), ← (c .before .before .before .pair .ensures), ← (c .before .before .is-kind .ensures), not-false (c .before .before .is-kind .result) (c .before .if2 .left), c .length-asked .ensures)
 
 pub is-statement-spec : {M : Type 1} → statement M
-is-statement-spec = tie.close (tie.spec is-whole-requires returns pair-requires between-requires returns-2 length-asked-requires returns-3)
+is-statement-spec = tie.close (tie.spec is-whole-requires returns pair-requires is-kind-requires returns-2 length-asked-requires returns-3)

@@ -1,46 +1,33 @@
+use Prim.Native.Nat.{_≤_}
+use native.Mathlib.Omega.{arith}
+use Rattle.records.specs.Statements.{listEnd, lengthAsked}
+use Rattle.records.proofs.Extents.{form-early}
 use borrow.Author.Needs.{needs}
-use borrow.Author.Tests.{not-true, not-false}
-use Rattle.records.specs.Statements.{lengthAsked}
 use Rattle.records.proofs.statement.length_asked.Statement.{statement}
 use Rattle.records.proofs.statement.length_asked.Tie as tie
 
-list-end-requires : tie.Need-list-end-requires
-list-end-requires c κs = search needs
+pair-requires : tie.Need-pair-requires
+pair-requires c κs = search needs
 
-has-conditions-requires : tie.Need-has-conditions-requires
-has-conditions-requires c κs = search needs
+form-of-requires : tie.Need-form-of-requires
+form-of-requires c κs = search needs
+
+list-end-requires : tie.Need-list-end-requires
+list-end-requires c κs = rw (c .form-of .ensures) (omega (arith, form-early (c .before .pair .result) .high))
+
+list-end-requires-2 : tie.Need-list-end-requires-2
+list-end-requires-2 c κs =
+    let f = c .before in
+    let h : f .form-of .result .at ≤ 14 = rw (f .form-of .ensures) (form-early _ .high) in
+    omega (arith, c .list-end .ensures .1)
 
 returns : tie.Need-returns
-unfolding lengthAsked
-returns c = rw (← (c .before .has-conditions .ensures), not-true (c .before .has-conditions .result) (c .if1 .taken), c .before .before .list-end .ensures .0)
-
-add-result : tie.Need-add-result
-add-result c = search needs
-
-condition-count-requires : tie.Need-condition-count-requires
-condition-count-requires c κs = search needs
-
-mul-result : tie.Need-mul-result
-mul-result c = search needs
-
-add-result-2 : tie.Need-add-result-2
-add-result-2 c = search needs
-
-returns-2 : tie.Need-returns-2
-unfolding lengthAsked
-returns-2 c =
-    let e = c .before .before in
-    rw (← (e .has-conditions .ensures), not-false (e .has-conditions .result) (c .before .if1 .left), e .before .list-end .ensures .0, c .condition-count .ensures .0)
+unfolding lengthAsked listEnd
+returns c =
+    let f = c .before .before in
+    rw (c .list-end2 .ensures .0, c .before .list-end .ensures .0, f .form-of .ensures, f .before .pair .ensures)
 
 pub length-asked-spec : {M : Type 1} → statement M
 length-asked-spec =
     tie.close
-    (tie.spec
-    list-end-requires
-    has-conditions-requires
-    returns
-    add-result
-    condition-count-requires
-    mul-result
-    add-result-2
-    returns-2)
+    (tie.spec pair-requires form-of-requires list-end-requires list-end-requires-2 returns)

@@ -1,7 +1,7 @@
 use borrow.Author.Tests.{le-leb, lt-leb}
 use Rattle.model.specs.Description.{between}
-use Rattle.records.proofs.whole.between.Statement.{statement}
-use Rattle.records.proofs.whole.between.Tie as tie
+use Rattle.records.proofs.kinds.between.Statement.{statement}
+use Rattle.records.proofs.kinds.between.Tie as tie
 
 returns : tie.Need-returns
 unfolding between
