@@ -24,8 +24,8 @@ one-took p q =
     let n = p .text-is .next-is ∙ sym (q .text-is .next-is) in
     record {
       answer-is = λ i. record { goes = g i; printed = n i; last = h i .last; description = h i .description };
-      values-is = ap (λ k. k .values) h;
-      classes-is = ap (λ k. k .classes) h;
+      values-is = ap (λ k. k .room .tables .values) h;
+      classes-is = ap (λ k. k .room .tables .classes) h;
       text-is = p .text-is .is ∙ sym (q .text-is .is);
     }
 
