@@ -129,22 +129,23 @@ fn fill(bytes: &[u8], list: &mut [u32], entry: Entry, at: usize) -> usize
     ensures { λ r. ⌜ Filled (numbersOf (now (bytes .entry)) entry at) (now (list .entry)) (now (list .exit)) r ⌝ }
 {
     let n = count(bytes, at);
+    let from = at + 2;
     match entry {
         Entry::None => 0,
         Entry::Level => {
-            fields(bytes, list, at + 2, n);
+            fields(bytes, list, from, n);
             n
         }
         Entry::Borrow => {
-            fields(bytes, list, at + 2, 2 * n);
+            fields(bytes, list, from, 2 * n);
             2 * n
         }
         Entry::Cell => {
-            cells(bytes, list, at + 2, n);
+            cells(bytes, list, from, n);
             2 * n
         }
         Entry::Condition => {
-            tests(bytes, list, at + 2, n);
+            tests(bytes, list, from, n);
             4 * n
         }
     }

@@ -1,6 +1,6 @@
+use borrow.Author.Needs.{needs}
 use borrow.Author.Tests.{ne-eqb}
 use Rattle.records.specs.Kinds.{formOf}
-use borrow.Author.Needs.{needs}
 use Rattle.records.proofs.kinds.form_of.Statement.{statement}
 use Rattle.records.proofs.kinds.form_of.Tie as tie
 

@@ -1,3 +1,4 @@
+use borrow.Author.Needs.{needs}
 use Prim.Native.Nat.{_≤_}
 use mathlib.Core.Path.{refl}
 use native.Mathlib.Omega.{arith}
@@ -6,21 +7,22 @@ use Rattle.records.specs.declared.kinds.Entry.the-variants as Entries
 use Rattle.records.specs.Statements.{endOf, numbersOf}
 use Rattle.records.proofs.Extents.{end-behind, room-as}
 use Rattle.records.proofs.Written.{filled, cells-length, fields-length, tests-length}
-use borrow.Author.Needs.{needs}
 use Rattle.records.proofs.statement.fill.Statement.{statement}
 use Rattle.records.proofs.statement.fill.Tie as tie
 
 count-requires : tie.Need-count-requires
 count-requires c κs = search needs
 
+add-from : tie.Need-add-from
+add-from c =
+    let s = c .before .before .before in
+    omega (arith, s .pre .1 .0, end-behind (s .args .bytes .now) (s .args .entry) (s .args .at))
+
 enum-told : tie.Need-enum-told
 enum-told c = search needs
 
 enum-told-2 : tie.Need-enum-told-2
 enum-told-2 c = search needs
-
-add-fields : tie.Need-add-fields
-add-fields c = let s = c .before .before .before .before .before .before in omega (arith, s .pre .1 .0, end-behind (s .args .bytes .now) (s .args .entry) (s .args .at))
 
 fields-requires : tie.Need-fields-requires
 unfolding endOf
@@ -32,9 +34,6 @@ fields-requires c κs =
 
 enum-told-3 : tie.Need-enum-told-3
 enum-told-3 c = search needs
-
-add-fields-2 : tie.Need-add-fields-2
-add-fields-2 c = let s = c .before .before .before .before .before .before in omega (arith, s .pre .1 .0, end-behind (s .args .bytes .now) (s .args .entry) (s .args .at))
 
 mul-fields : tie.Need-mul-fields
 mul-fields c = search needs
@@ -53,9 +52,6 @@ mul-result c = search needs
 enum-told-4 : tie.Need-enum-told-4
 enum-told-4 c = search needs
 
-add-cells : tie.Need-add-cells
-add-cells c = let s = c .before .before .before .before .before .before in omega (arith, s .pre .1 .0, end-behind (s .args .bytes .now) (s .args .entry) (s .args .at))
-
 cells-requires : tie.Need-cells-requires
 unfolding endOf
 cells-requires c κs =
@@ -69,9 +65,6 @@ mul-result-2 c = search needs
 
 enum-told-5 : tie.Need-enum-told-5
 enum-told-5 c = search needs
-
-add-tests : tie.Need-add-tests
-add-tests c = let s = c .before .before .before .before .before .before in omega (arith, s .pre .1 .0, end-behind (s .args .bytes .now) (s .args .entry) (s .args .at))
 
 tests-requires : tie.Need-tests-requires
 unfolding endOf
@@ -129,21 +122,18 @@ fill-spec =
     tie.close
     (tie.spec
     count-requires
+    add-from
     enum-told
     enum-told-2
-    add-fields
     fields-requires
     enum-told-3
-    add-fields-2
     mul-fields
     fields-requires-2
     mul-result
     enum-told-4
-    add-cells
     cells-requires
     mul-result-2
     enum-told-5
-    add-tests
     tests-requires
     mul-result-3
     returns

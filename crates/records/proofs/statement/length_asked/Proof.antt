@@ -1,8 +1,8 @@
+use borrow.Author.Needs.{needs}
 use Prim.Native.Nat.{_≤_}
 use native.Mathlib.Omega.{arith}
 use Rattle.records.specs.Statements.{listEnd, lengthAsked}
 use Rattle.records.proofs.Extents.{form-early}
-use borrow.Author.Needs.{needs}
 use Rattle.records.proofs.statement.length_asked.Statement.{statement}
 use Rattle.records.proofs.statement.length_asked.Tie as tie
 

@@ -1,6 +1,6 @@
+use borrow.Author.Needs.{needs}
 use native.Mathlib.Omega.{arith}
 use Rattle.records.specs.Statements.{endOf}
-use borrow.Author.Needs.{needs}
 use Rattle.records.proofs.statement.list_end.Statement.{statement}
 use Rattle.records.proofs.statement.list_end.Tie as tie
 

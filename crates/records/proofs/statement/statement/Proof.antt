@@ -1,10 +1,10 @@
+use borrow.Author.Needs.{needs}
 use mathlib.Core.Path.{sym, _∙_}
 use native.Mathlib.Omega.{arith}
 use borrow.Author.Tests.{not-true, not-false}
 use Rattle.records.specs.Statements.{statementOf, listOf, listEnd, conditionsOf}
 use Rattle.records.proofs.Extents.{form-early, list-starts, list-room, conditions-room}
 use Rattle.records.proofs.Outcomes.{refused, done}
-use borrow.Author.Needs.{needs}
 use Rattle.records.proofs.statement.statement.Statement.{statement}
 use Rattle.records.proofs.statement.statement.Tie as tie
 
