@@ -9,8 +9,9 @@ use lib.ListN.{length, getD}
 use Rattle.bounded.specs.Tests.{if_then_else_}
 use Rattle.bounded.specs.Bounded.{countBelow}
 use Rattle.model.specs.declared.Description.{Description}
-use Rattle.model.specs.Description.{over, columnCount}
+use Rattle.model.specs.Description.{over, rowCount, columnCount}
 use Rattle.model.specs.Tables.{Row}
+use Rattle.model.specs.Buffers.{holding, stateOf}
 use Rattle.model.specs.Conditions.{Condition, conditionsFormed, meets, met}
 use Rattle.cells.specs.Changed.{valueAt}
 use Rattle.asked.specs.Facts.{Ordered}
@@ -61,6 +62,10 @@ pub record Narrowed (d : Description) (B : ℕ → Row) (n : ℕ) (q : Condition
   pub right : (i : ℕ) → i < n → getD after i false ≡ (getD before i false && meets d q (B i))
   pub rest : (i : ℕ) → n ≤ i → getD after i false ≡ getD before i false
 
+-- the same of the rows of relation r at level l, as two lists hold them
+abbrev pub NarrowedAt : Description → ℕ → ℕ → Condition → List ℕ → List ℕ → List Bool → List Bool → Type 0
+NarrowedAt d r l q values classes = Narrowed d (stateOf d (holding values classes) l .rows r) (rowCount d r) q
+
 -- row i of a level is in use
 unfoldable pub usedRow : Description → List ℕ → ℕ → ℕ → ℕ → Bool
 usedRow d values r l i = not (eqb (valueAt d values r l i 1) 0)
@@ -68,6 +73,10 @@ usedRow d values r l i = not (eqb (valueAt d values r l i 1) 0)
 -- row i of a level is in use and meets every condition
 unfoldable pub metAt : Description → List ℕ → (ℕ → Row) → ℕ → Bool
 metAt d conditions B i = met d conditions (B i)
+
+-- of the rows of relation r at level l, as two lists hold them, those are chosen
+abbrev pub ChosenAt : Description → ℕ → ℕ → List ℕ → List ℕ → List ℕ → List Bool → Type 0
+ChosenAt d r l conditions values classes = ChosenBy (rowCount d r) (metAt d conditions (stateOf d (holding values classes) l .rows r))
 
 -- n is how many of the first rows are chosen
 pub record Counted (rows : ℕ) (chosen : List Bool) (n : ℕ) : Type 0 where

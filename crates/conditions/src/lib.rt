@@ -12,7 +12,7 @@ ghost use Rattle.model.specs.Description.{columnCount, rowCount};
 ghost use Rattle.model.specs.Buffers.{holding, stateOf};
 ghost use Rattle.cells.specs.Layout.{Sized, Lent, InRow, InLevel};
 ghost use Rattle.asked.specs.Facts.{Ordered};
-ghost use Rattle.conditions.specs.Facts.{Line, Tested, Asking, ChosenBy, Narrowed, Counted, passesBy, atMost, usedRow, metAt, asks};
+ghost use Rattle.conditions.specs.Facts.{Line, Tested, Asking, ChosenBy, ChosenAt, NarrowedAt, Counted, passesBy, atMost, usedRow, asks};
 
 // One condition, as it is asked.
 struct Asked {
@@ -179,7 +179,7 @@ fn narrow(
 ) -> [bool; 64]
     requires { ⌜ Lent description relation part (length (now values)) (length (now classes)) × InLevel description relation level ⌝ }
     requires { ⌜ Tested description relation (asks asked) line ⌝ }
-    ensures { λ r. ⌜ Narrowed description (stateOf description (holding (now (values .entry)) (now (classes .entry))) level .rows relation) (rowCount description relation) (asks asked) chosen r ⌝ }
+    ensures { λ r. ⌜ NarrowedAt description relation level (asks asked) (now (values .entry)) (now (classes .entry)) chosen r ⌝ }
 {
     let mut left = chosen;
     let rows = part.rows;
@@ -251,7 +251,7 @@ fn next(
 ) -> [bool; 64]
     requires { ⌜ Lent description relation part (length (now values)) (length (now classes)) × InLevel description relation level ⌝ }
     requires { ⌜ Asking description order relation (now conditions) × (i < conditionCount (now conditions)) ⌝ }
-    ensures { λ r. ⌜ Narrowed description (stateOf description (holding (now (values .entry)) (now (classes .entry))) level .rows relation) (rowCount description relation) (conditionAt (now (conditions .entry)) i) chosen r ⌝ }
+    ensures { λ r. ⌜ NarrowedAt description relation level (conditionAt (now (conditions .entry)) i) (now (values .entry)) (now (classes .entry)) chosen r ⌝ }
 {
     let asked = read(conditions, i);
     let line = line(description, order, asked.constant);
@@ -268,7 +268,7 @@ fn next(
     )
 }
 
-// The rows of a level that are in use.and meet every condition.
+// The rows of a level that are in use and meet every condition.
 pub fn chosen(
     values: &[u32],
     classes: &[u8],
@@ -281,7 +281,7 @@ pub fn chosen(
 ) -> [bool; 64]
     requires { ⌜ Lent description relation part (length (now values)) (length (now classes)) × InLevel description relation level ⌝ }
     requires { ⌜ Asking description order relation (now conditions) ⌝ }
-    ensures { λ r. ⌜ ChosenBy (rowCount description relation) (metAt description (now (conditions .entry)) (stateOf description (holding (now (values .entry)) (now (classes .entry))) level .rows relation)) r ⌝ }
+    ensures { λ r. ⌜ ChosenAt description relation level (now (conditions .entry)) (now (values .entry)) (now (classes .entry)) r ⌝ }
 {
     let mut chosen = used(values, description, relation, part, level);
     let count = conditions.len() / 4;

@@ -25,7 +25,8 @@ ghost use Rattle.model.specs.Conditions.{conditionsFormed};
 ghost use Rattle.cells.specs.Layout.{Sized, Lent, InLevel, InRow};
 ghost use Rattle.conditions.specs.Facts.{Asking};
 ghost use Rattle.change.specs.Facts.{Standing, Selects};
-ghost use Rattle.select.specs.Facts.{Holds, InLevels, Room, Wrote, Stands, Filled, held, start, levelsAt, shownLevels, foundIn, valuesOf, ownersOf, rowShown, wanted as wantedOf};
+ghost use Rattle.select.specs.Facts.{Holds, InLevels, Room, held, start, levelsAt, shownLevels, foundIn, valuesOf, ownersOf, rowShown, wanted as wantedOf};
+ghost use Rattle.select.specs.Written.{WroteRow, WroteLevel, WroteLevels, FilledLevels};
 
 // Every AT level exists and none is listed twice.
 pub fn formed(list: &[u32], description: Description) -> bool
@@ -219,7 +220,7 @@ fn put(
 ) -> At
     requires { ⌜ Lent d relation part (length (now values)) (length (now classes)) × (InRow d relation level row × (level < 16)) ⌝ }
     requires { ⌜ Room (rowShown d relation (stateOf d (holding (now values) (now classes)) level .rows relation) level chosen row) at (length (now shown)) (length (now owners)) ⌝ }
-    ensures { λ r. ⌜ Wrote (rowShown d relation (stateOf d (holding (now (values .entry)) (now (classes .entry))) level .rows relation) level chosen row) at r (now (shown .entry)) (now (owners .entry)) (now (shown .exit)) (now (owners .exit)) ⌝ }
+    ensures { λ r. ⌜ WroteRow d relation level chosen row at r (now (values .entry)) (now (classes .entry)) (now (shown .entry)) (now (owners .entry)) (now (shown .exit)) (now (owners .exit)) ⌝ }
 {
     if !chosen {
         return at;
@@ -248,7 +249,8 @@ fn show(
 ) -> At
     requires { ⌜ Lent d relation part (length (now values)) (length (now classes)) × (InLevel d relation level × Asking d order relation (now conditions)) ⌝ }
     requires { ⌜ Room (foundAt d relation (now conditions) (stateOf d (holding (now values) (now classes))) level) before (length (now shown)) (length (now owners)) ⌝ }
-    ensures { λ r. ⌜ Wrote (foundAt d relation (now (conditions .entry)) (stateOf d (holding (now (values .entry)) (now (classes .entry)))) level) before r (now (shown .entry)) (now (owners .entry)) (now (shown .exit)) (now (owners .exit)) ⌝ }
+    ensures { λ r. ⌜ WroteLevel d relation level before r (now (conditions .entry)) (now (values .entry)) (now (classes .entry))
+        (now (shown .entry)) (now (owners .entry)) (now (shown .exit)) (now (owners .exit)) ⌝ }
 {
     let chosen = chosen(values, classes, conditions, d, order, relation, part, level);
     let rows = part.rows;
@@ -288,7 +290,8 @@ fn write(
 )
     requires { ⌜ Lent d relation part (length (now values)) (length (now classes)) × (InLevels d relation laid × Asking d order relation (now conditions)) ⌝ }
     requires { ⌜ Room (foundIn d relation (now conditions) (stateOf d (holding (now values) (now classes))) laid) start (length (now shown)) (length (now owners)) ⌝ }
-    ensures { λ _. ⌜ Stands (foundIn d relation (now (conditions .entry)) (stateOf d (holding (now (values .entry)) (now (classes .entry)))) laid) (now (shown .entry)) (now (owners .entry)) (now (shown .exit)) (now (owners .exit)) ⌝ }
+    ensures { λ _. ⌜ WroteLevels d relation laid (now (conditions .entry)) (now (values .entry)) (now (classes .entry))
+        (now (shown .entry)) (now (owners .entry)) (now (shown .exit)) (now (owners .exit)) ⌝ }
 {
     let total = laid.count;
     let mut at = At {
@@ -329,7 +332,8 @@ fn fill(
 ) -> Answer
     requires { ⌜ Lent d relation part (length (now values)) (length (now classes)) × InLevels d relation laid ⌝ }
     requires { ⌜ Asking d order relation (now conditions) ⌝ }
-    ensures { λ r. ⌜ Filled (foundIn d relation (now (conditions .entry)) (stateOf d (holding (now (values .entry)) (now (classes .entry)))) laid) (now (shown .entry)) (now (owners .entry)) (now (shown .exit)) (now (owners .exit)) r ⌝ }
+    ensures { λ r. ⌜ FilledLevels d relation laid (now (conditions .entry)) (now (values .entry)) (now (classes .entry))
+        (now (shown .entry)) (now (owners .entry)) (now (shown .exit)) (now (owners .exit)) r ⌝ }
 {
     let found = rows(values, classes, conditions, d, order, relation, part, laid);
     let columns = part.columns;
@@ -370,7 +374,8 @@ pub fn select(
 ) -> Answer
     requires { ⌜ Standing description order relation subject part (now values) (now classes) ⌝ }
     requires { ⌜ (selectFormed description (now list) ≡ true) × (conditionsFormed description relation (now conditions) ≡ true) ⌝ }
-    ensures { λ r. ⌜ Selects description subject relation (now (list .entry)) (now (conditions .entry)) (now (values .entry)) (now (classes .entry)) (now (shown .entry)) (now (owners .entry)) (now (shown .exit)) (now (owners .exit)) r ⌝ }
+    ensures { λ r. ⌜ Selects description subject relation (now (list .entry)) (now (conditions .entry)) (now (values .entry)) (now (classes .entry))
+        (now (shown .entry)) (now (owners .entry)) (now (shown .exit)) (now (owners .exit)) r ⌝ }
 {
     if !seen(list, description, order, subject) {
         return Answer::Refused(Fault::Unseen);

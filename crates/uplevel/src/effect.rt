@@ -9,22 +9,16 @@ use cells::write::store;
 use model::Answer;
 use model::Description;
 ghost use mathlib.Core.Path.{_≡_};
-ghost use mathlib.Core.Bool.{true, false};
-ghost use mathlib.Core.Logic.{_≢_};
-ghost use mathlib.Core.Option.{some};
+ghost use mathlib.Core.Bool.{false};
 ghost use lib.ListN.{length, set, replicate};
 ghost use Prim.Native.Nat.{_<_};
-ghost use Rattle.model.specs.Description.{rowCount, columnCount};
-ghost use Rattle.model.specs.Tables.{cell, rowsOf};
+ghost use Rattle.model.specs.Description.{rowCount};
+ghost use Rattle.model.specs.Tables.{cell};
 ghost use Rattle.model.specs.Buffers.{holding, stateOf};
-ghost use Rattle.model.specs.declared.Answer.the-variants.{Done};
-ghost use Rattle.model.specs.Uplevel.{uplevelled};
-ghost use Rattle.model.specs.Run.{left};
 ghost use Rattle.cells.specs.Layout.{Lent, InLevel, Row};
-ghost use Rattle.cells.specs.Changed.{entityPlace, listedRow, withRow, changeLevel};
-ghost use Rattle.above.specs.Facts.{carried};
-ghost use Rattle.change.specs.Facts.{Standing, sight};
-ghost use Rattle.uplevel.specs.Raising.{Listing, spotOf, planOf};
+ghost use Rattle.change.specs.Facts.{Standing};
+ghost use Rattle.uplevel.specs.Raising.{Listing, spotOf};
+ghost use Rattle.uplevel.specs.Raised.{Found, Roomy, Replacing, Replaces, Effects};
 
 // The entity's row, which is row `here`, or the lowest empty one.
 pub(crate) fn spot(
@@ -70,8 +64,8 @@ fn write(
     news: News,
 )
     requires { ⌜ Standing description order relation subject part (now values) (now classes) × (row < rowCount description relation) ⌝ }
-    requires { ⌜ (length (news .values) ≡ 9) × (length (news .classes) ≡ 9) × (there ≡ true → stateOf description (holding (now values) (now classes)) subject .rows relation row 1 .value ≢ 0) ⌝ }
-    ensures { λ _. ⌜ stateOf description (holding (now (values .exit)) (now (classes .exit))) ≡ changeLevel subject (withRow (columnCount description relation) relation row (listedRow (news .values) (news .classes))) (carried description subject relation (planOf row there news) (stateOf description (holding (now (values .entry)) (now (classes .entry))))) ⌝ }
+    requires { ⌜ Replacing description relation subject row there news (now values) (now classes) ⌝ }
+    ensures { λ _. ⌜ Replaces description relation subject row there news (now (values .entry)) (now (classes .entry)) (now (values .exit)) (now (classes .exit)) ⌝ }
 {
     let chosen = choose(row, there);
     let new = news.values;
@@ -121,8 +115,8 @@ pub(crate) fn place(
     here: usize,
 ) -> Answer
     requires { ⌜ Standing description order relation subject part (now values) (now classes) × Listing description relation subject key (now list) ⌝ }
-    requires { ⌜ Row description relation (entityPlace description (now values) (now classes) relation subject key class) here × (spotOf description relation here (stateOf description (holding (now values) (now classes)) subject .rows) < rowCount description relation) ⌝ }
-    ensures { λ r. ⌜ (r ≡ Done 1) × (stateOf description (holding (now (values .exit)) (now (classes .exit))) ≡ left description subject (some (uplevelled description subject relation (cell key class) (now (list .entry)) (rowsOf (sight description subject (now (values .entry)) (now (classes .entry)))))) (stateOf description (holding (now (values .entry)) (now (classes .entry))))) ⌝ }
+    requires { ⌜ Found description relation subject key class here (now values) (now classes) × Roomy description relation subject here (now values) (now classes) ⌝ }
+    ensures { λ r. ⌜ Effects description subject relation (cell key class) (now (list .entry)) (now (values .entry)) (now (classes .entry)) (now (values .exit)) (now (classes .exit)) r ⌝ }
 {
     let row = spot(values, classes, description, relation, part, subject, here);
     let there = here < part.rows;

@@ -24,11 +24,12 @@ use model::Fault;
 ghost use mathlib.Core.Path.{_≡_};
 ghost use mathlib.Core.Bool.{true};
 ghost use Rattle.model.specs.Description.{over as overOf};
-ghost use Rattle.model.specs.Tables.{cell, rowsOf};
-ghost use Rattle.model.specs.Uplevel.{uplevelFormed, uplevelled};
+ghost use Rattle.model.specs.Tables.{cell};
+ghost use Rattle.model.specs.Uplevel.{uplevelFormed};
 ghost use Rattle.asked.specs.Facts.{Ordered, Related};
-ghost use Rattle.change.specs.Facts.{Standing, sight, Answered, Uplevels};
-ghost use Rattle.uplevel.specs.Raising.{Listing, classSeen, levelsSeen, laterTests, entityTests};
+ghost use Rattle.change.specs.Facts.{Standing, Uplevels};
+ghost use Rattle.uplevel.specs.Raising.{Listing, classSeen, levelsSeen};
+ghost use Rattle.uplevel.specs.Raised.{Raises, Admits};
 
 // ---- whether it is well formed
 
@@ -84,7 +85,7 @@ fn raise(
 ) -> Answer
     requires { ⌜ Standing description order relation subject part (now values) (now classes) × Listing description relation subject key (now list) ⌝ }
     requires { ⌜ overOf description subject class ≡ true ⌝ }
-    ensures { λ r. ⌜ Answered description subject (laterTests description subject relation (cell key class) (now (list .entry)) (sight description subject (now (values .entry)) (now (classes .entry)))) 1 (uplevelled description subject relation (cell key class) (now (list .entry)) (rowsOf (sight description subject (now (values .entry)) (now (classes .entry))))) (now (values .entry)) (now (classes .entry)) (now (values .exit)) (now (classes .exit)) r ⌝ }
+    ensures { λ r. ⌜ Raises description subject relation (cell key class) (now (list .entry)) (now (values .entry)) (now (classes .entry)) (now (values .exit)) (now (classes .exit)) r ⌝ }
 {
     let here = entity(
         values,
@@ -143,7 +144,7 @@ fn admit(
 ) -> Answer
     requires { ⌜ Standing description order relation subject part (now values) (now classes) ⌝ }
     requires { ⌜ Listing description relation subject key (now list) ⌝ }
-    ensures { λ r. ⌜ Answered description subject (entityTests description subject relation class (cell key own) (now (list .entry)) (sight description subject (now (values .entry)) (now (classes .entry)))) 1 (uplevelled description subject relation (cell key own) (now (list .entry)) (rowsOf (sight description subject (now (values .entry)) (now (classes .entry))))) (now (values .entry)) (now (classes .entry)) (now (values .exit)) (now (classes .exit)) r ⌝ }
+    ensures { λ r. ⌜ Admits description subject relation class (cell key own) (now (list .entry)) (now (values .entry)) (now (classes .entry)) (now (values .exit)) (now (classes .exit)) r ⌝ }
 {
     if !based(
         values,

@@ -9,10 +9,10 @@ ghost use mathlib.Core.Path.{_≡_};
 ghost use mathlib.Core.Bool.{true};
 ghost use mathlib.Core.Logic.{_≢_};
 ghost use Rattle.model.specs.Description.{isColumn, over as overOf};
-ghost use Rattle.model.specs.Tables.{cell, at, rowsOf};
-ghost use Rattle.model.specs.Uplevel.{borrowed as borrowedOf, raised};
+ghost use Rattle.model.specs.Tables.{cell, rowsOf};
 ghost use Rattle.change.specs.Facts.{Standing, sight};
 ghost use Rattle.uplevel.specs.Raising.{Listing, Composed};
+ghost use Rattle.uplevel.specs.Raised.{Borrows, Makes};
 
 // A cell that an UPLEVEL makes.
 struct New {
@@ -42,7 +42,7 @@ fn take(
 ) -> New
     requires { ⌜ Standing description order relation subject part (now values) (now classes) × (isColumn description relation column ≡ true) ⌝ }
     requires { ⌜ (key ≢ 0) × (overOf description subject from ≡ true) ⌝ }
-    ensures { λ r. ⌜ cell (r .value) (r .class) ≡ borrowedOf description (at description (rowsOf (sight description subject (now (values .entry)) (now (classes .entry))))) subject relation (cell key class) column from ⌝ }
+    ensures { λ r. ⌜ Borrows description subject relation (cell key class) column from (now (values .entry)) (now (classes .entry)) (cell (r .value) (r .class)) ⌝ }
 {
     let value = lent(
         values,
@@ -94,7 +94,7 @@ fn borrow(
 ) -> New
     requires { ⌜ Standing description order relation subject part (now values) (now classes) × (isColumn description relation column ≡ true) ⌝ }
     requires { ⌜ Listing description relation subject key (now list) ⌝ }
-    ensures { λ r. ⌜ cell (r .value) (r .class) ≡ raised description (at description (rowsOf (sight description subject (now (values .entry)) (now (classes .entry))))) subject relation (cell key class) (now (list .entry)) column ⌝ }
+    ensures { λ r. ⌜ Makes description subject relation (cell key class) (now (list .entry)) column (now (values .entry)) (now (classes .entry)) (cell (r .value) (r .class)) ⌝ }
 {
     if column == 1 {
         return New {
