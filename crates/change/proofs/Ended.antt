@@ -14,7 +14,6 @@ use Rattle.model.specs.Buffers.{holding, stateOf}
 use Rattle.model.specs.Listed.{each}
 use Rattle.model.specs.Effect.{Effect}
 use Rattle.model.specs.Insert.{listedNames}
-use Rattle.model.specs.Run.{firstFault}
 use Rattle.asked.specs.declared.pairs.Rule.the-variants as Rules
 use Rattle.asked.specs.Facts.{ruleOf}
 use Rattle.change.specs.declared.tests.Test.{Test}
