@@ -16,17 +16,18 @@ use Rattle.bounded.proofs.Cases.{cases, clash, or-true-right}
 use Rattle.bounded.proofs.Count.{count-cong}
 use Rattle.bounded.proofs.Reflection.{of-true}
 use Rattle.model.specs.declared.Description.{Description}
-use Rattle.model.specs.Description.{between, over, isColumn, columnCount, refersOf}
-use Rattle.model.specs.Tables.{Row, Tables, norow, used, Level, State, rowsOf, place, seek, at}
+use Rattle.model.specs.Description.{between, over, isColumn, rowCount, columnCount, refersOf}
+use Rattle.model.specs.Tables.{Cell, Row, Tables, norow, used, Level, State, rowsOf, place, seek, at}
 use Rattle.model.specs.Buffers.{holding, inside, stateOf}
 use Rattle.model.specs.Legal.{Legal}
 use Rattle.model.specs.Conditions.{met}
-use Rattle.model.specs.Effect.{Effect, Above, goneAt, reach}
+use Rattle.model.specs.Effect.{Rows, Effect, Above, goneAt, reach}
 use Rattle.model.specs.Run.{left}
 use Rattle.model.proofs.Border.{state-framed}
 use Rattle.theory.proofs.Described.{sound-laws}
 use Rattle.theory.proofs.Judged.{judged}
 use Rattle.theory.proofs.Reach.{Side, at-c, over-c, off-c, side}
+use Rattle.theory.proofs.Seen.{seen-own}
 use Rattle.cells.specs.declared.layout.Part.{Part}
 use Rattle.cells.specs.Changed.{changeLevel}
 use Rattle.cells.proofs.Cells.{state-path}
@@ -35,9 +36,10 @@ use Rattle.conditions.specs.Facts.{ChosenBy, Counted, metAt}
 use Rattle.above.specs.declared.Plan.{Plan}
 use Rattle.above.specs.Facts.{chosenAt, aboveOf, carried, withRows, Working}
 use Rattle.above.proofs.Carried.{carried-own, carried-aside, carried-cell}
-use Rattle.change.specs.Facts.{Standing}
-use Rattle.chosen.specs.Choosing.{Chosen, rowChosen}
+use Rattle.change.specs.Facts.{Standing, sight, metRows}
+use Rattle.chosen.specs.Choosing.{Picked, Chosen, rowChosen}
 use Rattle.change.proofs.Answers.{left-own, left-over, left-other}
+use Rattle.change.proofs.Known.{own-over}
 
 -- ---- two effects above
 
@@ -69,7 +71,7 @@ module _ (d : Description) (c r : ℕ) (P : Plan) (S : State) (E : Effect) (G : 
       ap (λ (B : Level). B .rows s i k) (change-other c l G (carried d c r P S) (λ e. n (sym e)) ∙ carried-aside d c r P S l n f)
       ∙ sym (left-other d c E S s l i k n f)
 
-  pub left-planned : changeLevel c G (carried d c r P S) ≡ left d c (some E) S
+  left-planned : changeLevel c G (carried d c r P S) ≡ left d c (some E) S
   left-planned = state-path (λ l s i k. at-cell l s i k (side d c l))
 
 -- ---- the rows at c
@@ -87,7 +89,7 @@ module _ (n m r : ℕ) (chosen : List Bool) (F : Row → Row) (B : Level) (M : C
   beyond i k e true = sym (past i k e)
   beyond i k e false = refl
 
-  pub own-chosen : (s i k : ℕ) → withRows n m r after B .rows s i k ≡ (if eqb s r && getD chosen i false then F (B .rows s i) else B .rows s i) k
+  own-chosen : (s i k : ℕ) → withRows n m r after B .rows s i k ≡ (if eqb s r && getD chosen i false then F (B .rows s i) else B .rows s i) k
   unfolding withRows
   own-chosen s i k =
       cases (eqb r s)
@@ -96,6 +98,23 @@ module _ (n m r : ℕ) (chosen : List Bool) (F : Row → Row) (B : Level) (M : C
       (λ u. cases (between 1 m k) (λ w. rw (u, w) (row-as i k)) (λ w. rw (u, w) (beyond i k w (getD chosen i false))))
       (λ u. rw (u, M .rest i (ltb-false i n u)))))
       (λ t. rw (t, ne-eqb s r (λ e. eqb-false r s t (sym e))))
+
+-- where a plan is carried out above and then the chosen rows at c are done, the tables are what an effect leaves that does the same
+module _ (d : Description) (c r m : ℕ) (P : Plan) (S : State) (F : Row → Row) (E : Effect)
+    (gone : (s v : ℕ) → aboveOf d c r P (S c .rows) .gone s v ≡ E .above .gone s v)
+    (change : (s l i k : ℕ) → S l .rows s i k .class ≡ c → aboveOf d c r P (S c .rows) .change s (S l .rows s i 1 .value) k ≡ E .above .change s (S l .rows s i 1 .value) k)
+    (own : (s i k : ℕ) → (if eqb s r && getD (P .chosen) i false then F (S c .rows s i) else S c .rows s i) k ≡ E .own s i k)
+    (M : Chosen (rowCount d r) (S c .rows r) (P .chosen)) (past : (i k : ℕ) → between 1 m k ≡ false → F (S c .rows r i) k ≡ S c .rows r i k) where
+  abbrev done : Rows → Level → Level
+  done B = withRows (rowCount d r) m r (λ i. rowChosen (P .chosen) F i (B r i))
+
+  pub left-chosen : {S′ S″ : State} → S′ ≡ carried d c r P S → S″ ≡ changeLevel c (done (S′ c .rows)) S′ → S″ ≡ left d c (some E) S
+  left-chosen p q =
+      q
+      ∙ ap (λ (T : State). changeLevel c (done (T c .rows)) T) p
+      ∙ ap (λ (D : Level). changeLevel c (done (D .rows)) (carried d c r P S)) (carried-own d c r P S)
+      ∙ left-planned d c r P S E (done (S c .rows)) gone change
+      (λ s i k. own-chosen (rowCount d r) m r (P .chosen) F (S c) M past s i k ∙ own s i k)
 
 -- ---- which rows are chosen
 
@@ -152,6 +171,32 @@ module _ {d : Description} {order : List (List Bool)} {r c : ℕ} {p : Part} {vs
   out : (s l i k : ℕ) → between 1 (columnCount d s) k ≡ false → inside d s l i k ≡ false
   unfolding inside isColumn
   out s l i k e = rw e
+
+  -- the subject sees its own level as it is
+  pub own-seen : sight d c vs cs c .rows ≡ T c .rows
+  own-seen = seen-own d T c (own-over K)
+
+  -- ---- the rows that are picked
+
+  module _ (conditions : List ℕ) {chosen : List Bool} (M : Picked d r c conditions vs cs chosen) where
+    pub counted : {count : ℕ} → Counted (p .rows) chosen count → count ≡ metRows d c r conditions (sight d c vs cs)
+    unfolding metRows
+    counted C = rw own-seen (count-met d conditions (rowCount d r) (T c .rows r) chosen M (rw (K .laid .rows) at C))
+
+    empty-past : (i : ℕ) → rowCount d r ≤ i → T c .rows r i 1 .value ≡ 0
+    empty-past i h = ap (λ (x : Cell). x .value) (legal-of .outside r c i 1 h)
+
+    pub picked-own : (s i : ℕ) → (eqb s r && getD chosen i false) ≡ (eqb s r && met d conditions (T c .rows s i))
+    picked-own s i =
+        cases (eqb s r)
+        (λ t. rw (eqb-true s r t, eq-eqb r r refl) (row-met d conditions (rowCount d r) (T c .rows r) chosen M empty-past i))
+        (λ t. rw t)
+
+    pub picked-above : (s v : ℕ) → (eqb s r && chosenAt (rowCount d s) chosen (T c .rows s) v) ≡ (eqb s r && met d conditions (seek (rowCount d s) (T c .rows s) v))
+    picked-above s v =
+        cases (eqb s r)
+        (λ t. rw (eqb-true s r t, eq-eqb r r refl) (sought-met d conditions (rowCount d r) (T c .rows r) chosen M v))
+        (λ t. rw t)
 
   pub working : Working d order r c T
   working =

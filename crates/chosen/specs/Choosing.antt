@@ -4,19 +4,23 @@ use mathlib.Core.Path.{_≡_}
 use mathlib.Core.Bool.{Bool, true, false, not, _&&_}
 use mathlib.Core.Logic.{_≢_}
 use mathlib.Core.List.{List}
+use mathlib.Core.Option.{some}
 use Prim.Native.Nat.{ℕ, suc, _≤_, _<_}
 use lib.Dec.{eqb, ltb}
 use lib.ListN.{length, getD}
 use Rattle.bounded.specs.Tests.{if_then_else_}
 use Rattle.bounded.specs.Bounded.{anyBelow}
 use Rattle.model.specs.declared.Description.{Description}
-use Rattle.model.specs.Description.{rowCount, foreignOf, refersOf}
+use Rattle.model.specs.Description.{rowCount, columnCount, foreignOf, refersOf}
 use Rattle.model.specs.Tables.{Row, nocell, norow, seek}
+use Rattle.model.specs.Buffers.{holding, stateOf}
 use Rattle.model.specs.Listed.{pairs, columnAt, lists}
 use Rattle.model.specs.Effect.{Rows, Effect, keep, only}
 use Rattle.model.specs.Update.{setIn, takeIn}
-use Rattle.cells.specs.Changed.{valueAt, keyPlace}
-use Rattle.above.specs.Facts.{chosenAt}
+use Rattle.model.specs.Run.{left}
+use Rattle.cells.specs.Changed.{valueAt, keyPlace, changeLevel, withRow}
+use Rattle.conditions.specs.Facts.{ChosenBy, metAt}
+use Rattle.above.specs.Facts.{chosenAt, withRows}
 
 -- ---- what is listed
 
@@ -37,11 +41,19 @@ kindListed list k = if lists list k then 1 else 0
 
 -- ---- rows that are chosen
 
+-- of the rows at c those are chosen that meet the conditions
+abbrev pub Picked : Description → ℕ → ℕ → List ℕ → List ℕ → List ℕ → List Bool → Type 0
+Picked d r c conditions values classes = ChosenBy (rowCount d r) (metAt d conditions (stateOf d (holding values classes) c .rows r))
+
 -- only rows in use are chosen, and none past the last
 pub record Chosen (n : ℕ) (B : ℕ → Row) (chosen : List Bool) : Type 0 where
   pub long : length chosen ≡ 64
   pub real : (i : ℕ) → i < n → getD chosen i false ≡ true → B i 1 .value ≢ 0
   pub rest : (i : ℕ) → n ≤ i → getD chosen i false ≡ false
+
+-- the same of the rows at c
+abbrev pub OnlyUsed : Description → ℕ → ℕ → List ℕ → List ℕ → List Bool → Type 0
+OnlyUsed d r c values classes = Chosen (rowCount d r) (stateOf d (holding values classes) c .rows r)
 
 -- row i at the subject's level: as F makes it, where it is chosen
 unfoldable pub rowChosen : List Bool → (Row → Row) → ℕ → Row → Row
@@ -68,6 +80,27 @@ emptyChosen d c r chosen B =
         change = λ s v k. if eqb s r && chosenAt (rowCount d s) chosen (B s) v then only nocell else keep;
       };
     }
+
+-- ---- what is left in two buffers
+
+-- row i at c is as F makes it, and nothing else has changed
+abbrev pub RowDone : Description → ℕ → ℕ → ℕ → (Row → Row) → List ℕ → List ℕ → List ℕ → List ℕ → Type 0
+RowDone d r c i F vs cs vs′ cs′ =
+    stateOf d (holding vs′ cs′) ≡ changeLevel c (withRow (columnCount d r) r i (F (stateOf d (holding vs cs) c .rows r i))) (stateOf d (holding vs cs))
+
+-- of the first n rows at c those that are chosen are as F makes them, and nothing else has changed
+abbrev pub RowsDoneBelow : ℕ → Description → ℕ → ℕ → List Bool → (Row → Row) → List ℕ → List ℕ → List ℕ → List ℕ → Type 0
+RowsDoneBelow n d r c chosen F vs cs vs′ cs′ =
+    stateOf d (holding vs′ cs′)
+    ≡ changeLevel c (withRows n (columnCount d r) r (λ i. rowChosen chosen F i (stateOf d (holding vs cs) c .rows r i))) (stateOf d (holding vs cs))
+
+-- the same of all rows at c
+abbrev pub RowsDone : Description → ℕ → ℕ → List Bool → (Row → Row) → List ℕ → List ℕ → List ℕ → List ℕ → Type 0
+RowsDone d r = RowsDoneBelow (rowCount d r) d r
+
+-- the tables are what an effect leaves that is made of the rows at c
+abbrev pub Leaves : Description → ℕ → (Rows → Effect) → List ℕ → List ℕ → List ℕ → List ℕ → Type 0
+Leaves d c E vs cs vs′ cs′ = stateOf d (holding vs′ cs′) ≡ left d c (some (E (stateOf d (holding vs cs) c .rows))) (stateOf d (holding vs cs))
 
 -- ---- what refers to a chosen row
 

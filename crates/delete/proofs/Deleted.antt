@@ -1,44 +1,41 @@
 -- DELETE: the plan that is made for it, its test, and the tables that it leaves.
 -- Assumes nothing.
-use Prim.Native.Nat.{ℕ, suc, _≤_, _<_}
+use Prim.Native.Nat.{ℕ, suc, _<_}
 use mathlib.Core.Path.{_≡_, refl, sym, ap, ap₂, _∙_, fun-ext}
-use mathlib.Core.Bool.{Bool, true, false, not, _&&_}
+use mathlib.Core.Bool.{Bool, true, false, not, _&&_, and-assoc}
 use mathlib.Core.List.{List}
-use mathlib.Core.Option.{some}
+use mathlib.Core.Option.{none, some}
 use native.Mathlib.Omega.{arith}
 use lib.Dec.{eqb, ltb}
 use lib.ListN.{length, getD, replicate, getD-replicate, List·getD-eq-default}
-use borrow.Author.Tests.{eq-eqb, eqb-true, ltb-true, ltb-false}
+use borrow.Author.Tests.{eqb-true, ltb-true, ltb-false}
+use Rattle.bounded.specs.Tests.{if_then_else_}
 use Rattle.bounded.specs.Bounded.{anyBelow}
 use Rattle.bounded.proofs.Any.{any-cong}
 use Rattle.bounded.proofs.Cases.{cases}
 use Rattle.bounded.proofs.Reflection.{of-true}
 use Rattle.model.specs.declared.Description.{Description}
-use Rattle.model.specs.declared.Fault.the-variants as Faults
 use Rattle.model.specs.declared.Answer.the-variants as Answers
-use Rattle.model.specs.Description.{between, rowCount, columnCount, foreignOf, refersOf}
-use Rattle.model.specs.Tables.{Cell, State, Level, rowsOf, nocell, norow, seek, at}
+use Rattle.model.specs.Description.{between, over, rowCount, columnCount, foreignOf, refersOf}
+use Rattle.model.specs.Tables.{Cell, State, rowsOf, nocell, norow, seek, at}
 use Rattle.model.specs.Buffers.{holding, stateOf}
 use Rattle.model.specs.Conditions.{met}
-use Rattle.model.specs.Effect.{Rows, Effect, Above, Change, only}
+use Rattle.model.specs.Effect.{Rows, Effect, Above, Change, keep, only}
 use Rattle.model.specs.Delete.{referred, deleteTests, deleted}
-use Rattle.model.specs.Run.{left}
+use Rattle.model.specs.Run.{firstFault, left}
 use Rattle.model.proofs.Sound.{between-r}
 use Rattle.cells.specs.declared.layout.Part.{Part}
 use Rattle.cells.specs.Changed.{valueAt, keyPlace, changeLevel}
 use Rattle.cells.proofs.Cells.{state-cell}
 use Rattle.cells.proofs.Sought.{place-key}
-use Rattle.conditions.specs.Facts.{ChosenBy, Counted, metAt}
+use Rattle.conditions.specs.Facts.{Counted}
 use Rattle.above.specs.declared.Plan.{Plan}
 use Rattle.above.specs.Facts.{chosenAt, changeOf, aboveOf, carried, withRows, Working, Planned}
-use Rattle.above.proofs.Carried.{carried-own}
 use Rattle.theory.proofs.Seen.{seen-own}
-use Rattle.change.specs.Facts.{Standing, Deletes, refuses, does, sight, metRows}
-use Rattle.chosen.specs.Choosing.{Chosen, rowChosen, emptyChosen, namesChosen, rowRefers, refersChosen, referredChosen}
-use Rattle.change.proofs.Answers.{first-fails, first-passes, first-none}
+use Rattle.change.specs.Facts.{Standing, Deletes, does, sight}
+use Rattle.chosen.specs.Choosing.{Picked, Chosen, rowChosen, emptyChosen, namesChosen, rowRefers, refersChosen, referredChosen}
 use Rattle.cells.proofs.Counts.{sound-says, relation-is}
-use Rattle.change.proofs.Known.{own-over}
-use Rattle.chosen.proofs.Carrying.{left-planned, own-chosen, sought-met, row-met, count-met, working}
+use Rattle.chosen.proofs.Carrying.{left-chosen, sought-met, own-seen, counted, picked-own, picked-above}
 
 -- ---- the plan
 
@@ -92,12 +89,7 @@ module _ (P : Plan) (N : Nulling P) where
           → S″ ≡ changeLevel c (withRows (rowCount d r) (columnCount d r) r (λ i. rowChosen (P .chosen) (λ R. norow) i (S′ c .rows r i))) S′
           → S″ ≡ left d c (some (emptyChosen d c r (P .chosen) (S c .rows))) S
       unfolding emptyChosen
-      delete-left p q =
-          q
-          ∙ ap (λ (T : State). changeLevel c (withRows (rowCount d r) (columnCount d r) r (λ i. rowChosen (P .chosen) (λ R. norow) i (T c .rows r i))) T) p
-          ∙ ap (λ (D : Level). changeLevel c (withRows (rowCount d r) (columnCount d r) r (λ i. rowChosen (P .chosen) (λ R. norow) i (D .rows r i))) (carried d c r P S)) (carried-own d c r P S)
-          ∙ left-planned d c r P S E (withRows (rowCount d r) (columnCount d r) r (λ i. rowChosen (P .chosen) (λ R. norow) i (S c .rows r i))) gone-is changed-is
-          (own-chosen (rowCount d r) (columnCount d r) r (P .chosen) (λ R. norow) (S c) M past)
+      delete-left = left-chosen d c r (columnCount d r) P S (λ R. norow) E gone-is changed-is (λ s i k. refl) M past
 
       -- the plan is one
       pub delete-planned : Planned d r c P (S c .rows r)
@@ -119,73 +111,59 @@ module _ (P : Plan) (N : Nulling P) where
               let z : getD (P .kinds) k 0 ≡ 0 = List·getD-eq-default (P .kinds) 0 {n = k} (omega (arith, ap length (N .kinds))) in
               let y : _≡_ {A = ℕ} 0 1 = sym z ∙ q in omega (arith, y))
 
--- ---- the effect, by what meets the conditions
+-- ---- its test
 
-pub delete-chosen : (d : Description) (c r : ℕ) (conditions : List ℕ) (chosen : List Bool) (B : Rows) → ChosenBy (rowCount d r) (metAt d conditions (B r)) chosen
-    → ((i : ℕ) → rowCount d r ≤ i → B r i 1 .value ≡ 0) → emptyChosen d c r chosen B ≡ deleted d c r conditions B
-unfolding emptyChosen deleted
-delete-chosen d c r conditions chosen B M out =
-    ap₂ (λ (N : Rows) (A : Above). record { own = N; above = A })
-    (fun-ext (λ s. fun-ext (λ i. cases (eqb s r)
-    (λ t. rw (eqb-true s r t, eq-eqb r r refl, row-met d conditions (rowCount d r) (B r) chosen M out i))
-    (λ t. rw t))))
-    (ap₂ (λ (g : ℕ → ℕ → Bool) (f : ℕ → ℕ → ℕ → Change). record { gone = g; change = f })
-    (fun-ext (λ s. fun-ext (λ v. cases (eqb s r)
-    (λ t. rw (eqb-true s r t, eq-eqb r r refl, sought-met d conditions (rowCount d r) (B r) chosen M v))
-    (λ t. rw t))))
-    (fun-ext (λ s. fun-ext (λ v. fun-ext (λ k. cases (eqb s r)
-    (λ t. rw (eqb-true s r t, eq-eqb r r refl, sought-met d conditions (rowCount d r) (B r) chosen M v))
-    (λ t. rw t))))))
+module _ (d : Description) (vs cs : List ℕ) (c r : ℕ) (o : over d c c ≡ true) (conditions : List ℕ) {chosen : List Bool} (M : Picked d r c conditions vs cs chosen) where
+  abbrev S₀ : State
+  S₀ = stateOf d (holding vs cs)
 
--- ---- its test, and what is answered
+  key-met : (v : ℕ) → (ltb (keyPlace d vs r c v) (rowCount d r) && getD chosen (keyPlace d vs r c v) false) ≡ met d conditions (at d (rowsOf S₀) r c v)
+  unfolding chosenAt at
+  key-met v = rw (← (place-key d vs cs r c v)) (sought-met d conditions (rowCount d r) (S₀ c .rows r) chosen M v)
 
-module _ {d : Description} {order : List (List Bool)} {r c : ℕ} {p : Part} {vs cs : List ℕ} (K : Standing d order r c p vs cs) (conditions : List ℕ) where
+  -- row i of relation s refers to a row that is met, where B are the rows at c
+  abbrev refersIn : Rows → ℕ → ℕ → Bool
+  refersIn B s i =
+      let v = B s i (foreignOf d s) .value in
+      eqb (refersOf d s) r && (not (eqb v 0) && met d conditions (seek (rowCount d r) (B r) v))
+
+  row-is : (s i : ℕ) → rowRefers d vs chosen r c s i ≡ refersIn (S₀ c .rows) s i
+  unfolding rowRefers namesChosen at
+  row-is s i = rw (state-cell d vs cs s c i (foreignOf d s), key-met (valueAt d vs s c i (foreignOf d s)))
+
+  named-is : referredChosen d vs chosen r c ≡ referred d c r conditions (rowsOf (sight d c vs cs))
+  unfolding referredChosen refersChosen referred at
+  named-is =
+      any-cong (suc (d .relations)) (refersChosen d vs chosen r c) (λ s. anyBelow (rowCount d s) (refersIn (S₀ c .rows) s))
+      (λ s h. any-cong (rowCount d s) (rowRefers d vs chosen r c s) (refersIn (S₀ c .rows) s) (λ i g. row-is s i))
+      ∙ ap (λ (B : Rows). anyBelow (suc (d .relations)) (λ s. anyBelow (rowCount d s) (refersIn B s))) (sym (seen-own d S₀ c o))
+
+  pub referred-test : {b : Bool} → b ≡ referredChosen d vs chosen r c → not (referred d c r conditions (rowsOf (sight d c vs cs))) ≡ not b
+  referred-test z = ap not (sym (z ∙ named-is))
+
+-- ---- the effect, by what meets the conditions, and what is answered
+
+module _ {d : Description} {order : List (List Bool)} {r c : ℕ} {p : Part} {vs cs : List ℕ} (K : Standing d order r c p vs cs) (conditions : List ℕ)
+    {chosen : List Bool} (M : Picked d r c conditions vs cs chosen) where
   abbrev T : State
   T = stateOf d (holding vs cs)
 
-  -- which rows are met, and whether one of them is referred to
-  module _ {chosen : List Bool} (M : ChosenBy (rowCount d r) (metAt d conditions (T c .rows r)) chosen) where
-    own : sight d c vs cs c .rows ≡ T c .rows
-    own = seen-own d T c (own-over K)
+  gone-met : (s v : ℕ) (b : Bool) → (eqb s r && (chosenAt (rowCount d s) chosen (T c .rows s) v && b)) ≡ (eqb s r && (met d conditions (seek (rowCount d s) (T c .rows s) v) && b))
+  gone-met s v b =
+      sym (and-assoc (eqb s r) (chosenAt (rowCount d s) chosen (T c .rows s) v) b)
+      ∙ ap (λ (a : Bool). a && b) (picked-above K conditions M s v)
+      ∙ and-assoc (eqb s r) (met d conditions (seek (rowCount d s) (T c .rows s) v)) b
 
-    key-met : (v : ℕ) → (ltb (keyPlace d vs r c v) (rowCount d r) && getD chosen (keyPlace d vs r c v) false) ≡ met d conditions (at d (rowsOf T) r c v)
-    unfolding chosenAt at
-    key-met v = rw (← (place-key d vs cs r c v)) (sought-met d conditions (rowCount d r) (T c .rows r) chosen M v)
+  effect-is : emptyChosen d c r chosen (T c .rows) ≡ deleted d c r conditions (sight d c vs cs c .rows)
+  unfolding emptyChosen deleted
+  effect-is =
+      ap₂ (λ (N : Rows) (A : Above). record { own = N; above = A })
+      (fun-ext (λ s. fun-ext (λ i. ap (λ (b : Bool). if b then norow else T c .rows s i) (picked-own K conditions M s i))))
+      (ap₂ (λ (g : ℕ → ℕ → Bool) (f : ℕ → ℕ → ℕ → Change). record { gone = g; change = f })
+      (fun-ext (λ s. fun-ext (λ v. gone-met s v _)))
+      (fun-ext (λ s. fun-ext (λ v. fun-ext (λ k. ap (λ (b : Bool). if b then only nocell else keep) (picked-above K conditions M s v))))))
+      ∙ ap (deleted d c r conditions) (sym (own-seen K))
 
-    -- row i of relation s refers to a row that is met, where B are the rows at c
-    abbrev refersIn : Rows → ℕ → ℕ → Bool
-    refersIn B s i =
-        let v = B s i (foreignOf d s) .value in
-        eqb (refersOf d s) r && (not (eqb v 0) && met d conditions (seek (rowCount d r) (B r) v))
-
-    row-is : (s i : ℕ) → rowRefers d vs chosen r c s i ≡ refersIn (T c .rows) s i
-    unfolding rowRefers namesChosen at
-    row-is s i = rw (state-cell d vs cs s c i (foreignOf d s), key-met (valueAt d vs s c i (foreignOf d s)))
-
-    named-is : referredChosen d vs chosen r c ≡ referred d c r conditions (rowsOf (sight d c vs cs))
-    unfolding referredChosen refersChosen referred at
-    named-is =
-        any-cong (suc (d .relations)) (refersChosen d vs chosen r c) (λ s. anyBelow (rowCount d s) (refersIn (T c .rows) s))
-        (λ s h. any-cong (rowCount d s) (rowRefers d vs chosen r c s) (refersIn (T c .rows) s) (λ i g. row-is s i))
-        ∙ ap (λ (B : Rows). anyBelow (suc (d .relations)) (λ s. anyBelow (rowCount d s) (refersIn B s))) (sym own)
-
-    module _ {b : Bool} (z : b ≡ referredChosen d vs chosen r c) where
-      pub delete-referred : b ≡ true → Deletes d c r conditions vs cs vs cs (Answers.Refused Faults.Referred)
-      unfolding deleteTests
-      delete-referred t = refuses Faults.Referred (first-fails _ _ (ap not (sym (z ∙ named-is) ∙ t))) refl refl refl
-
-      effect-is : emptyChosen d c r chosen (T c .rows) ≡ deleted d c r conditions (sight d c vs cs c .rows)
-      effect-is =
-          delete-chosen d c r conditions chosen (T c .rows) M (λ i h. ap (λ (x : Cell). x .value) (working K .outside r c i 1 h))
-          ∙ ap (deleted d c r conditions) (sym own)
-
-      counted : {count : ℕ} → Counted (p .rows) chosen count → count ≡ metRows d c r conditions (sight d c vs cs)
-      unfolding metRows
-      counted C = rw own (count-met d conditions (rowCount d r) (T c .rows r) chosen M (rw (K .laid .rows) at C))
-
-      pub delete-done : b ≡ false → {count : ℕ} → Counted (p .rows) chosen count → {us ds : List ℕ}
-          → stateOf d (holding us ds) ≡ left d c (some (emptyChosen d c r chosen (T c .rows))) T → Deletes d c r conditions vs cs us ds (Answers.Done count)
-      unfolding deleteTests
-      delete-done t C m =
-          does (first-passes _ _ (ap not (sym (z ∙ named-is) ∙ t)) ∙ first-none) (ap Answers.Done (counted C))
-          (m ∙ ap (λ (E : Effect). left d c (some E) T) effect-is)
+  pub delete-done : firstFault (deleteTests d c r conditions (sight d c vs cs)) ≡ none → {count : ℕ} → Counted (p .rows) chosen count → {us ds : List ℕ}
+      → stateOf d (holding us ds) ≡ left d c (some (emptyChosen d c r chosen (T c .rows))) T → Deletes d c r conditions vs cs us ds (Answers.Done count)
+  delete-done n C m = does n (ap Answers.Done (counted K conditions M C)) (m ∙ ap (λ (E : Effect). left d c (some E) T) effect-is)

@@ -6,6 +6,7 @@ use cells::layout::lay;
 use cells::read::value_at;
 use cells::search::find;
 use cells::write::clear;
+use change::tests::Test;
 use conditions::chosen;
 use conditions::count;
 use model::Answer;
@@ -13,19 +14,15 @@ use model::Description;
 use model::Fault;
 ghost use mathlib.Core.Path.{_≡_};
 ghost use mathlib.Core.Bool.{true};
-ghost use mathlib.Core.Option.{some};
 ghost use lib.ListN.{length};
 ghost use Prim.Native.Nat.{_<_};
-ghost use Rattle.model.specs.Description.{rowCount, columnCount};
 ghost use Rattle.model.specs.Tables.{norow};
-ghost use Rattle.model.specs.Buffers.{holding, stateOf};
 ghost use Rattle.model.specs.Conditions.{conditionsFormed};
-ghost use Rattle.model.specs.Run.{left};
-ghost use Rattle.cells.specs.Layout.{Sized, Lent, InLevel, InRow};
-ghost use Rattle.cells.specs.Changed.{changeLevel, withRow};
-ghost use Rattle.above.specs.Facts.{withRows};
-ghost use Rattle.change.specs.Facts.{Standing, Naming, Deletes};
-ghost use Rattle.chosen.specs.Choosing.{Chosen, rowChosen, emptyChosen, namesChosen, refersChosen, referredChosen};
+ghost use Rattle.model.specs.Delete.{deleteTests};
+ghost use Rattle.cells.specs.Layout.{Laid, Sized, Lent, InLevel};
+ghost use Rattle.change.specs.Facts.{Standing, Naming, Deletes, sight};
+ghost use Rattle.change.specs.Tests.{ended};
+ghost use Rattle.chosen.specs.Choosing.{Picked, OnlyUsed, emptyChosen, RowsDone, Leaves, namesChosen, refersChosen, referredChosen};
 
 // Whether a row of a relation at the subject's level refers to a chosen row.
 fn refers(
@@ -106,28 +103,7 @@ fn referred(
     false
 }
 
-// A row is emptied, where it is chosen.
-fn row(
-    values: &mut [u32],
-    classes: &mut [u8],
-    description: Description,
-    relation: usize,
-    part: Part,
-    chosen: [bool; 64],
-    level: usize,
-    row: usize,
-)
-    requires { ⌜ Lent description relation part (length (now values)) (length (now classes)) ⌝ }
-    requires { ⌜ InRow description relation level row ⌝ }
-    ensures { λ _. ⌜ stateOf description (holding (now (values .exit)) (now (classes .exit))) ≡ changeLevel level (withRow (columnCount description relation) relation row (rowChosen chosen (λ R. norow) row (stateOf description (holding (now (values .entry)) (now (classes .entry))) level .rows relation row))) (stateOf description (holding (now (values .entry)) (now (classes .entry)))) ⌝ }
-{
-    if !chosen[row] {
-        return;
-    }
-    clear(values, classes, description, relation, part, level, row);
-}
-
-// Every row at the subject's level.
+// Each row at the subject's level that is chosen is emptied.
 fn rows(
     values: &mut [u32],
     classes: &mut [u8],
@@ -139,21 +115,14 @@ fn rows(
 )
     requires { ⌜ Lent description relation part (length (now values)) (length (now classes)) ⌝ }
     requires { ⌜ InLevel description relation level ⌝ }
-    ensures { λ _. ⌜ stateOf description (holding (now (values .exit)) (now (classes .exit))) ≡ changeLevel level (withRows (rowCount description relation) (columnCount description relation) relation (λ i. rowChosen chosen (λ R. norow) i (stateOf description (holding (now (values .entry)) (now (classes .entry))) level .rows relation i))) (stateOf description (holding (now (values .entry)) (now (classes .entry)))) ⌝ }
+    ensures { λ _. ⌜ RowsDone description relation level chosen (λ R. norow) (now (values .entry)) (now (classes .entry)) (now (values .exit)) (now (classes .exit)) ⌝ }
 {
     let rows = part.rows;
     let mut i = 0;
     while i < rows {
-        row(
-            values,
-            classes,
-            description,
-            relation,
-            part,
-            chosen,
-            level,
-            i,
-        );
+        if chosen[i] {
+            clear(values, classes, description, relation, part, level, i);
+        }
         i += 1;
     }
 }
@@ -170,8 +139,8 @@ fn write(
     level: usize,
 )
     requires { ⌜ Standing description order relation level part (now values) (now classes) ⌝ }
-    requires { ⌜ Chosen (rowCount description relation) (stateOf description (holding (now values) (now classes)) level .rows relation) chosen ⌝ }
-    ensures { λ _. ⌜ stateOf description (holding (now (values .exit)) (now (classes .exit))) ≡ left description level (some (emptyChosen description level relation chosen (stateOf description (holding (now (values .entry)) (now (classes .entry))) level .rows))) (stateOf description (holding (now (values .entry)) (now (classes .entry)))) ⌝ }
+    requires { ⌜ OnlyUsed description relation level (now values) (now classes) chosen ⌝ }
+    ensures { λ _. ⌜ Leaves description level (emptyChosen description level relation chosen) (now (values .entry)) (now (classes .entry)) (now (values .exit)) (now (classes .exit)) ⌝ }
 {
     let kinds = [2u8; 9];
     let news = [0u32; 9];
@@ -196,7 +165,28 @@ fn write(
     rows(values, classes, description, relation, part, chosen, level);
 }
 
-// The test; then the rows above, and the rows at the subject's level.
+// The tests, in their order, where the rows that meet the conditions are chosen.
+fn check(
+    values: &[u32],
+    classes: &[u8],
+    conditions: &[u32],
+    description: Description,
+    relation: usize,
+    part: Part,
+    chosen: [bool; 64],
+    level: usize,
+) -> Test
+    requires { ⌜ Naming description relation level (length (now values)) × Laid description relation part ⌝ }
+    requires { ⌜ Picked description relation level (now conditions) (now values) (now classes) chosen ⌝ }
+    ensures { λ r. ⌜ r ≡ ended (deleteTests description level relation (now (conditions .entry)) (sight description level (now (values .entry)) (now (classes .entry)))) ⌝ }
+{
+    if referred(values, description, relation, part, chosen, level) {
+        return Test::Failed(Fault::Referred);
+    }
+    Test::Passed
+}
+
+// The tests; then the rows above, and the rows at the subject's level.
 pub fn delete(
     values: &mut [u32],
     classes: &mut [u8],
@@ -221,8 +211,18 @@ pub fn delete(
         part,
         level,
     );
-    if referred(values, description, relation, part, chosen, level) {
-        return Answer::Refused(Fault::Referred);
+    let test = check(
+        values,
+        classes,
+        conditions,
+        description,
+        relation,
+        part,
+        chosen,
+        level,
+    );
+    if let Test::Failed(fault) = test {
+        return Answer::Refused(fault);
     }
     let count = count(chosen, part.rows);
     write(

@@ -3,7 +3,7 @@
 use Prim.Native.Nat.{ℕ, _%_, _≤_, _<_}
 use mathlib.Core.Path.{_≡_, refl, sym, ap, ap₂, _∙_}
 use mathlib.Core.Bool.{Bool, true, false, not, _&&_}
-use mathlib.Core.List.{List, [], _∷_}
+use mathlib.Core.List.{List}
 use mathlib.Core.Logic.{_≢_}
 use mathlib.Core.Option.{Option, none, some}
 use lib.Dec.{eqb, ltb}
@@ -19,7 +19,7 @@ use Rattle.model.specs.Tables.{Row, State, rowsOf, cell, nocell, ownNull, used,
 use Rattle.model.specs.Buffers.{Buffers, holding, inside, stateOf}
 use Rattle.model.specs.Listed.{whole, each, listed, columnsOnce}
 use Rattle.model.specs.Effect.{Rows, Effect, lowestEmpty, hasRoom}
-use Rattle.model.specs.Insert.{keyListed, insertFormed, listedNames, insertTests, newRow, inserted}
+use Rattle.model.specs.Insert.{keyListed, insertFormed, insertTests, newRow, inserted}
 use Rattle.model.specs.Run.{firstFault, left}
 use Rattle.model.proofs.Sound.{between-r, column-r}
 use Rattle.model.proofs.Border.{state-framed}
@@ -32,7 +32,7 @@ use Rattle.theory.proofs.Accepted.{passed}
 use Rattle.theory.proofs.Listed.{each-listed}
 use Rattle.theory.proofs.Seen.{seen-at, seen-own}
 use Rattle.change.specs.Facts.{Standing, Filled, Inserts, does, sight, valueListed}
-use Rattle.change.proofs.Answers.{listed-seen, left-own, left-still}
+use Rattle.change.proofs.Answers.{left-own, left-still}
 use Rattle.change.proofs.Known.{own-over}
 use Rattle.change.proofs.Sought.{used-is}
 
@@ -167,19 +167,12 @@ module _ {d : Description} {order : List (List Bool)} {r c : ℕ} {p : Part} {vs
 
   -- ---- each test is what was asked
 
-  pub range-test : {a : Bool} → a ≡ each (ruleOf d r (Rules.Takes c)) list → each (λ k v. inRange d r k c) list ≡ a
-  unfolding ruleOf
-  range-test e = sym e
-
   pub taken-test : {key i : ℕ} → key ≡ valueListed list 1 → i ≡ keyPlace d vs r c key → not (used (at d (rowsOf seeing) r c (keyListed list))) ≡ not (ltb i (p .rows))
   taken-test {i = i} x y =
       ap not
       (ap used (seen-at d T c r c (keyListed list) (own-over K))
       ∙ sym (used-is d vs cs r c (keyListed list) (formed-keyed d r list formed-is) (y ∙ ap (keyPlace d vs r c) (x ∙ key-listed list)))
       ∙ ap (ltb i) (sym (K .laid .rows)))
-
-  pub names-test : {b : Bool} → ((classes : List ℕ) → b ≡ listedNames d c r list (rowsOf (stateOf d (holding vs classes)))) → listedNames d c r list (rowsOf seeing) ≡ b
-  names-test z = listed-seen d c T (own-over K) r list ∙ sym (z cs)
 
   module _ {row : ℕ} (q : row ≡ lowestEmpty d (T c .rows) r) where
     pub room-test : hasRoom d (seeing c .rows) r ≡ ltb row (p .rows)

@@ -9,41 +9,35 @@ use mathlib.Core.Option.{none, some}
 use native.Mathlib.Omega.{arith}
 use lib.Dec.{eqb, ltb}
 use lib.ListN.{length, getD, replicate, getD-replicate, List·getD-eq-default}
-use borrow.Author.Tests.{eq-eqb, eqb-true, ltb-true, ltb-false}
+use borrow.Author.Tests.{eqb-true, ltb-true, ltb-false}
 use Rattle.bounded.specs.Tests.{if_then_else_}
-use Rattle.bounded.specs.Bounded.{firstBelow, allBelow, anyBelow, countBelow}
+use Rattle.bounded.specs.Bounded.{firstBelow, allBelow}
 use Rattle.bounded.proofs.All.{all-at}
 use Rattle.bounded.proofs.Any.{any-first}
 use Rattle.bounded.proofs.First.{first-holds}
 use Rattle.bounded.proofs.Cases.{cases}
 use Rattle.bounded.proofs.Reflection.{is-false, of-true, of-false, bool-r, not-r, and-r, eqb-r}
 use Rattle.model.specs.declared.Description.{Description}
-use Rattle.model.specs.declared.Fault.the-variants as Faults
 use Rattle.model.specs.declared.Answer.the-variants as Answers
-use Rattle.model.specs.Description.{between, distinctBelow, isColumn, rowCount, columnCount, inRange}
-use Rattle.model.specs.Tables.{Cell, Row, State, Level, rowsOf}
+use Rattle.model.specs.Description.{between, distinctBelow, over, isColumn, rowCount, columnCount}
+use Rattle.model.specs.Tables.{Row, State, rowsOf}
 use Rattle.model.specs.Buffers.{holding, stateOf}
 use Rattle.model.specs.Listed.{whole, pairs, columnAt, secondAt, each, listed, lists, columnsOnce}
 use Rattle.model.specs.Conditions.{met}
-use Rattle.model.specs.Effect.{Rows, Effect, Above, Change}
+use Rattle.model.specs.Effect.{Rows, Effect, Above, Change, keep}
 use Rattle.model.specs.Insert.{listedNames}
 use Rattle.model.specs.Update.{updateFormed, anyMet, updateTests, setIn, takeIn, updated}
-use Rattle.model.specs.Run.{left}
+use Rattle.model.specs.Run.{firstFault, left}
 use Rattle.model.proofs.Sound.{between-r, column-r}
 use Rattle.cells.specs.declared.layout.Part.{Part}
 use Rattle.cells.specs.Changed.{changeLevel}
-use Rattle.asked.specs.declared.pairs.Rule.the-variants as Rules
-use Rattle.asked.specs.Facts.{ruleOf}
-use Rattle.conditions.specs.Facts.{ChosenBy, Counted, metAt}
+use Rattle.conditions.specs.Facts.{Counted}
 use Rattle.above.specs.declared.Plan.{Plan}
 use Rattle.above.specs.Facts.{changeOf, aboveOf, carried, withRows, Planned}
-use Rattle.above.proofs.Carried.{carried-own}
-use Rattle.theory.proofs.Seen.{seen-own}
-use Rattle.change.specs.Facts.{Standing, Updates, refuses, does, sight, metRows, valueListed}
-use Rattle.chosen.specs.Choosing.{Listing, ByColumn, Chosen, kindListed, rowChosen, setChosen}
-use Rattle.change.proofs.Answers.{first-fails, first-passes, first-none, listed-seen}
-use Rattle.change.proofs.Known.{own-over}
-use Rattle.chosen.proofs.Carrying.{left-planned, own-chosen, sought-met, row-met, count-met, any-counted, working}
+use Rattle.change.specs.Facts.{Standing, Updates, does, sight, metRows, valueListed}
+use Rattle.chosen.specs.Choosing.{Listing, ByColumn, Picked, Chosen, kindListed, rowChosen, setChosen}
+use Rattle.change.proofs.Answers.{listed-seen}
+use Rattle.chosen.proofs.Carrying.{left-chosen, any-counted, own-seen, counted, picked-own, picked-above}
 use Rattle.update.proofs.Setting.{listed-there, listed-nowhere}
 
 -- ---- what is listed for a column
@@ -110,13 +104,7 @@ module _ (c : ℕ) (list : List ℕ) (P : Plan) (kinds : ByColumn (kindListed li
       pub update-left : {S′ S″ : State} → S′ ≡ carried d c r P S → S″ ≡ changeLevel c (withRows (rowCount d r) m r (λ i. rowChosen (P .chosen) (setIn c list) i (S′ c .rows r i))) S′
           → S″ ≡ left d c (some (setChosen d c r list (P .chosen) (S c .rows))) S
       unfolding setChosen
-      update-left p q =
-          q
-          ∙ ap (λ (T : State). changeLevel c (withRows (rowCount d r) m r (λ i. rowChosen (P .chosen) (setIn c list) i (T c .rows r i))) T) p
-          ∙ ap (λ (D : Level). changeLevel c (withRows (rowCount d r) m r (λ i. rowChosen (P .chosen) (setIn c list) i (D .rows r i))) (carried d c r P S)) (carried-own d c r P S)
-          ∙ left-planned d c r P S E (withRows (rowCount d r) m r (λ i. rowChosen (P .chosen) (setIn c list) i (S c .rows r i))) gone-is
-          (λ s l i k h. changed-is s (S l .rows s i 1 .value) k)
-          (own-chosen (rowCount d r) m r (P .chosen) (setIn c list) (S c) M past)
+      update-left = left-chosen d c r m P S (setIn c list) E gone-is (λ s l i k h. changed-is s (S l .rows s i 1 .value) k) (λ s i k. refl) M past
 
 -- the plan is one
 pub update-planned : (d : Description) (r c : ℕ) (list : List ℕ) (P : Plan) (B : ℕ → Row) → ByColumn (kindListed list) (P .kinds)
@@ -138,21 +126,6 @@ update-planned d r c list P B kinds values e M n =
         (λ t. let g = ltb-false k 9 t in
         let z : getD (P .kinds) k 0 ≡ 0 = List·getD-eq-default (P .kinds) 0 {n = k} (omega (arith, kinds .long)) in
         let y : _≡_ {A = ℕ} 0 1 = sym z ∙ q in absurd (omega (arith, y)))
-
--- ---- the effect, by what meets the conditions
-
-pub update-chosen : (d : Description) (c r : ℕ) (list conditions : List ℕ) (chosen : List Bool) (B : Rows) → ChosenBy (rowCount d r) (metAt d conditions (B r)) chosen
-    → ((i : ℕ) → rowCount d r ≤ i → B r i 1 .value ≡ 0) → setChosen d c r list chosen B ≡ updated d c r list conditions B
-unfolding setChosen updated
-update-chosen d c r list conditions chosen B M out =
-    ap₂ (λ (N : Rows) (A : Above). record { own = N; above = A })
-    (fun-ext (λ s. fun-ext (λ i. cases (eqb s r)
-    (λ t. rw (eqb-true s r t, eq-eqb r r refl, row-met d conditions (rowCount d r) (B r) chosen M out i))
-    (λ t. rw t))))
-    (ap (λ (f : ℕ → ℕ → ℕ → Change). record { gone = λ s v. false; change = f })
-    (fun-ext (λ s. fun-ext (λ v. fun-ext (λ k. cases (eqb s r)
-    (λ t. rw (eqb-true s r t, eq-eqb r r refl, sought-met d conditions (rowCount d r) (B r) chosen M v))
-    (λ t. rw t))))))
 
 -- ---- what is well formed
 
@@ -187,57 +160,35 @@ module _ (d : Description) (r : ℕ) (list : List ℕ) (h : updateFormed d r lis
 pub listing-few : (m : ℕ) (list : List ℕ) → m ≤ 8 → Listing m list → Listing 8 list
 listing-few m list h L = record { least = L .least; most = λ i g. omega (arith, L .most i g); once = L .once }
 
--- ---- its tests in their order, and what is answered
+-- ---- its tests
 
-module _ {d : Description} {order : List (List Bool)} {r c : ℕ} {p : Part} {vs cs : List ℕ} (K : Standing d order r c p vs cs) (list conditions : List ℕ) where
+module _ (d : Description) (vs cs : List ℕ) (c r : ℕ) (o : over d c c ≡ true) (list conditions : List ℕ) {count : ℕ}
+    (n : count ≡ metRows d c r conditions (sight d c vs cs)) where
+  none-met : not (anyMet d c r conditions (rowsOf (sight d c vs cs))) ≡ eqb count 0
+  unfolding anyMet metRows
+  none-met = any-counted (rowCount d r) (λ i. met d conditions (sight d c vs cs c .rows r i)) ∙ ap (λ (m : ℕ). eqb m 0) (sym n)
+
+  -- the reference is asked for where a row is met
+  pub reference-test : {b : Bool} → ((classes : List ℕ) → b ≡ (eqb count 0 || listedNames d c r list (rowsOf (stateOf d (holding vs classes)))))
+      → (not (anyMet d c r conditions (rowsOf (sight d c vs cs))) || listedNames d c r list (rowsOf (sight d c vs cs))) ≡ b
+  reference-test z = ap₂ (λ (x y : Bool). x || y) none-met (listed-seen d c (stateOf d (holding vs cs)) o r list) ∙ sym (z cs)
+
+-- ---- the effect, by what meets the conditions, and what is answered
+
+module _ {d : Description} {order : List (List Bool)} {r c : ℕ} {p : Part} {vs cs : List ℕ} (K : Standing d order r c p vs cs) (list conditions : List ℕ)
+    {chosen : List Bool} (M : Picked d r c conditions vs cs chosen) where
   abbrev T : State
   T = stateOf d (holding vs cs)
 
-  -- what was asked of each listed column
-  module _ {a : Bool} (e : a ≡ each (ruleOf d r (Rules.Takes c)) list) where
-    each-is : each (λ k v. inRange d r k c) list ≡ a
-    unfolding ruleOf
-    each-is = sym e
+  effect-is : setChosen d c r list chosen (T c .rows) ≡ updated d c r list conditions (sight d c vs cs c .rows)
+  unfolding setChosen updated
+  effect-is =
+      ap₂ (λ (N : Rows) (A : Above). record { own = N; above = A })
+      (fun-ext (λ s. fun-ext (λ i. ap (λ (b : Bool). if b then setIn c list (T c .rows s i) else T c .rows s i) (picked-own K conditions M s i))))
+      (ap (λ (f : ℕ → ℕ → ℕ → Change). record { gone = λ s v. false; change = f })
+      (fun-ext (λ s. fun-ext (λ v. fun-ext (λ k. ap (λ (b : Bool). if b then takeIn list k else keep) (picked-above K conditions M s v))))))
+      ∙ ap (updated d c r list conditions) (sym (own-seen K))
 
-    pub update-range : a ≡ false → Updates d c r list conditions vs cs vs cs (Answers.Refused Faults.Range)
-    unfolding updateTests
-    update-range t = refuses Faults.Range (first-fails _ _ (each-is ∙ t)) refl refl refl
-
-    -- which rows are met, and whether the reference has its row
-    module _ (t : a ≡ true) {chosen : List Bool} (M : ChosenBy (rowCount d r) (metAt d conditions (T c .rows r)) chosen) {count : ℕ} (C : Counted (p .rows) chosen count)
-        {b : Bool} (z : (classes : List ℕ) → b ≡ (eqb count 0 || listedNames d c r list (rowsOf (stateOf d (holding vs classes))))) where
-      own : sight d c vs cs c .rows ≡ T c .rows
-      own = seen-own d T c (own-over K)
-
-      count-is : count ≡ countBelow (rowCount d r) (λ i. met d conditions (T c .rows r i))
-      count-is = count-met d conditions (rowCount d r) (T c .rows r) chosen M (rw (K .laid .rows) at C)
-
-      counted : count ≡ metRows d c r conditions (sight d c vs cs)
-      unfolding metRows
-      counted = rw own count-is
-
-      none-met : not (anyMet d c r conditions (rowsOf (sight d c vs cs))) ≡ eqb count 0
-      unfolding anyMet
-      none-met =
-          ap (λ (B : Rows). not (anyBelow (rowCount d r) (λ i. met d conditions (B r i)))) own
-          ∙ any-counted (rowCount d r) (λ i. met d conditions (T c .rows r i))
-          ∙ ap (λ (n : ℕ). eqb n 0) (sym count-is)
-
-      named-is : (not (anyMet d c r conditions (rowsOf (sight d c vs cs))) || listedNames d c r list (rowsOf (sight d c vs cs))) ≡ b
-      named-is = ap₂ (λ (x y : Bool). x || y) none-met (listed-seen d c T (own-over K) r list) ∙ sym (z cs)
-
-      pub update-reference : b ≡ false → Updates d c r list conditions vs cs vs cs (Answers.Refused Faults.Reference)
-      unfolding updateTests
-      update-reference w = refuses Faults.Reference (first-passes _ _ (each-is ∙ t) ∙ first-fails _ _ (named-is ∙ w)) refl refl refl
-
-      effect-is : setChosen d c r list chosen (T c .rows) ≡ updated d c r list conditions (sight d c vs cs c .rows)
-      effect-is =
-          update-chosen d c r list conditions chosen (T c .rows) M (λ i h. ap (λ (x : Cell). x .value) (working K .outside r c i 1 h))
-          ∙ ap (updated d c r list conditions) (sym own)
-
-      pub update-done : b ≡ true → {us ds : List ℕ} → stateOf d (holding us ds) ≡ left d c (some (setChosen d c r list chosen (T c .rows))) T
-          → Updates d c r list conditions vs cs us ds (Answers.Done count)
-      unfolding updateTests
-      update-done w m =
-          does (first-passes _ _ (each-is ∙ t) ∙ first-passes _ _ (named-is ∙ w) ∙ first-none) (ap Answers.Done counted)
-          (m ∙ ap (λ (E : Effect). left d c (some E) T) effect-is)
+  pub update-done : firstFault (updateTests d c r list conditions (sight d c vs cs)) ≡ none → {count : ℕ} → Counted (p .rows) chosen count → {us ds : List ℕ}
+      → stateOf d (holding us ds) ≡ left d c (some (setChosen d c r list chosen (T c .rows))) T → Updates d c r list conditions vs cs us ds (Answers.Done count)
+  update-done n C m = does n (ap Answers.Done (counted K conditions M C)) (m ∙ ap (λ (E : Effect). left d c (some E) T) effect-is)

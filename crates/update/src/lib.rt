@@ -8,6 +8,7 @@ use asked::pairs::once;
 use cells::layout::Part;
 use cells::write::put;
 use change::named::listed;
+use change::tests::Test;
 use conditions::chosen;
 use conditions::count;
 use model::Answer;
@@ -16,24 +17,21 @@ use model::Fault;
 ghost use mathlib.Core.Path.{_≡_};
 ghost use mathlib.Core.Bool.{true, false, _||_};
 ghost use mathlib.Core.List.{List};
-ghost use mathlib.Core.Option.{some};
 ghost use lib.Dec.{eqb};
 ghost use lib.ListN.{length};
 ghost use Prim.Native.Nat.{ℕ, _<_};
-ghost use Rattle.model.specs.Description.{isColumn, rowCount, columnCount};
+ghost use Rattle.model.specs.Description.{isColumn, columnCount};
 ghost use Rattle.model.specs.Tables.{rowsOf};
 ghost use Rattle.model.specs.Buffers.{holding, stateOf};
 ghost use Rattle.model.specs.Listed.{each as eachOf, lists};
 ghost use Rattle.model.specs.Conditions.{conditionsFormed};
 ghost use Rattle.model.specs.Insert.{listedNames};
-ghost use Rattle.model.specs.Update.{updateFormed, setIn};
-ghost use Rattle.model.specs.Run.{left};
+ghost use Rattle.model.specs.Update.{updateFormed, updateTests, setIn};
 ghost use Rattle.cells.specs.Layout.{Lent, InLevel, InRow};
-ghost use Rattle.cells.specs.Changed.{changeLevel, withRow};
-ghost use Rattle.above.specs.Facts.{withRows};
 ghost use Rattle.asked.specs.Facts.{Ordered, Related};
-ghost use Rattle.change.specs.Facts.{Standing, Naming, valueListed, Updates};
-ghost use Rattle.chosen.specs.Choosing.{Listing, ByColumn, Chosen, kindListed, rowChosen, setChosen};
+ghost use Rattle.change.specs.Facts.{Standing, Naming, valueListed, metRows, Updates, sight};
+ghost use Rattle.change.specs.Tests.{ended};
+ghost use Rattle.chosen.specs.Choosing.{Listing, ByColumn, OnlyUsed, kindListed, setChosen, RowDone, RowsDone, Leaves};
 
 // Every column exists, none is listed twice, the key is not, and one is.
 pub fn formed(
@@ -107,7 +105,7 @@ fn set(
 )
     requires { ⌜ Lent description relation part (length (now values)) (length (now classes)) × InRow description relation level row ⌝ }
     requires { ⌜ Listing (columnCount description relation) (now list) × (level < 16) ⌝ }
-    ensures { λ _. ⌜ stateOf description (holding (now (values .exit)) (now (classes .exit))) ≡ changeLevel level (withRow (columnCount description relation) relation row (setIn level (now (list .entry)) (stateOf description (holding (now (values .entry)) (now (classes .entry))) level .rows relation row))) (stateOf description (holding (now (values .entry)) (now (classes .entry)))) ⌝ }
+    ensures { λ _. ⌜ RowDone description relation level row (setIn level (now (list .entry))) (now (values .entry)) (now (classes .entry)) (now (values .exit)) (now (classes .exit)) ⌝ }
 {
     let pairs = list.len() / 2;
     let mut i = 0;
@@ -130,38 +128,7 @@ fn set(
     }
 }
 
-// The row, where it is chosen.
-fn row(
-    values: &mut [u32],
-    classes: &mut [u8],
-    list: &[u32],
-    description: Description,
-    relation: usize,
-    part: Part,
-    chosen: [bool; 64],
-    level: usize,
-    row: usize,
-)
-    requires { ⌜ Lent description relation part (length (now values)) (length (now classes)) × InRow description relation level row ⌝ }
-    requires { ⌜ Listing (columnCount description relation) (now list) × (level < 16) ⌝ }
-    ensures { λ _. ⌜ stateOf description (holding (now (values .exit)) (now (classes .exit))) ≡ changeLevel level (withRow (columnCount description relation) relation row (rowChosen chosen (setIn level (now (list .entry))) row (stateOf description (holding (now (values .entry)) (now (classes .entry))) level .rows relation row))) (stateOf description (holding (now (values .entry)) (now (classes .entry)))) ⌝ }
-{
-    if !chosen[row] {
-        return;
-    }
-    set(
-        values,
-        classes,
-        list,
-        description,
-        relation,
-        part,
-        level,
-        row,
-    );
-}
-
-// Every row at the subject's level.
+// Each row at the subject's level that is chosen is set.
 fn rows(
     values: &mut [u32],
     classes: &mut [u8],
@@ -174,22 +141,14 @@ fn rows(
 )
     requires { ⌜ Lent description relation part (length (now values)) (length (now classes)) × InLevel description relation level ⌝ }
     requires { ⌜ Listing (columnCount description relation) (now list) × (level < 16) ⌝ }
-    ensures { λ _. ⌜ stateOf description (holding (now (values .exit)) (now (classes .exit))) ≡ changeLevel level (withRows (rowCount description relation) (columnCount description relation) relation (λ i. rowChosen chosen (setIn level (now (list .entry))) i (stateOf description (holding (now (values .entry)) (now (classes .entry))) level .rows relation i))) (stateOf description (holding (now (values .entry)) (now (classes .entry)))) ⌝ }
+    ensures { λ _. ⌜ RowsDone description relation level chosen (setIn level (now (list .entry))) (now (values .entry)) (now (classes .entry)) (now (values .exit)) (now (classes .exit)) ⌝ }
 {
     let rows = part.rows;
     let mut i = 0;
     while i < rows {
-        row(
-            values,
-            classes,
-            list,
-            description,
-            relation,
-            part,
-            chosen,
-            level,
-            i,
-        );
+        if chosen[i] {
+            set(values, classes, list, description, relation, part, level, i);
+        }
         i += 1;
     }
 }
@@ -206,9 +165,9 @@ fn write(
     chosen: [bool; 64],
     level: usize,
 )
-    requires { ⌜ Standing description order relation level part (now values) (now classes) × Chosen (rowCount description relation) (stateOf description (holding (now values) (now classes)) level .rows relation) chosen ⌝ }
+    requires { ⌜ Standing description order relation level part (now values) (now classes) × OnlyUsed description relation level (now values) (now classes) chosen ⌝ }
     requires { ⌜ Listing (columnCount description relation) (now list) × (lists (now list) 1 ≡ false) ⌝ }
-    ensures { λ _. ⌜ stateOf description (holding (now (values .exit)) (now (classes .exit))) ≡ left description level (some (setChosen description level relation (now (list .entry)) chosen (stateOf description (holding (now (values .entry)) (now (classes .entry))) level .rows))) (stateOf description (holding (now (values .entry)) (now (classes .entry)))) ⌝ }
+    ensures { λ _. ⌜ Leaves description level (setChosen description level relation (now (list .entry)) chosen) (now (values .entry)) (now (classes .entry)) (now (values .exit)) (now (classes .exit)) ⌝ }
 {
     let kinds = kinds(list);
     let news = news(list);
@@ -261,7 +220,35 @@ fn reference(
     listed(values, list, description, relation, level)
 }
 
-// The tests, in their order; then the rows above, and the rows at the subject's level.
+// The tests, in their order, where `count` rows meet the conditions.
+fn check(
+    values: &[u32],
+    classes: &[u8],
+    list: &[u32],
+    conditions: &[u32],
+    description: Description,
+    order: [[bool; 16]; 16],
+    relation: usize,
+    part: Part,
+    level: usize,
+    count: u32,
+) -> Test
+    requires { ⌜ Standing description order relation level part (now values) (now classes) × (updateFormed description relation (now list) ≡ true) ⌝ }
+    requires { ⌜ count ≡ metRows description level relation (now conditions) (sight description level (now values) (now classes)) ⌝ }
+    ensures { λ r. ⌜ r ≡ ended (updateTests description level relation (now (list .entry)) (now (conditions .entry)) (sight description level (now (values .entry)) (now (classes .entry)))) ⌝ }
+{
+    let columns = part.columns;
+    let rule = Rule::Takes { level: level };
+    if !each(list, description, order, relation, columns, rule) {
+        return Test::Failed(Fault::Range);
+    }
+    if !reference(values, list, description, relation, level, count) {
+        return Test::Failed(Fault::Reference);
+    }
+    Test::Passed
+}
+
+// The tests; then the rows above, and the rows at the subject's level.
 pub fn update(
     values: &mut [u32],
     classes: &mut [u8],
@@ -277,17 +264,6 @@ pub fn update(
     requires { ⌜ (updateFormed description relation (now list) ≡ true) × (conditionsFormed description relation (now conditions) ≡ true) ⌝ }
     ensures { λ r. ⌜ Updates description level relation (now (list .entry)) (now (conditions .entry)) (now (values .entry)) (now (classes .entry)) (now (values .exit)) (now (classes .exit)) r ⌝ }
 {
-    let columns = part.columns;
-    if !each(
-        list,
-        description,
-        order,
-        relation,
-        columns,
-        Rule::Takes { level: level },
-    ) {
-        return Answer::Refused(Fault::Range);
-    }
     let chosen = chosen(
         values,
         classes,
@@ -299,8 +275,20 @@ pub fn update(
         level,
     );
     let count = count(chosen, part.rows);
-    if !reference(values, list, description, relation, level, count) {
-        return Answer::Refused(Fault::Reference);
+    let test = check(
+        values,
+        classes,
+        list,
+        conditions,
+        description,
+        order,
+        relation,
+        part,
+        level,
+        count,
+    );
+    if let Test::Failed(fault) = test {
+        return Answer::Refused(fault);
     }
     write(
         values,

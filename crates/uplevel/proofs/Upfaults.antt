@@ -5,8 +5,7 @@ use mathlib.Core.Path.{_≡_, refl, sym, ap, _∙_}
 use mathlib.Core.Bool.{Bool, true, false, not, _&&_, _||_}
 use mathlib.Core.List.{List, [], _∷_}
 use mathlib.Core.Logic.{_≢_}
-use mathlib.Core.Option.{none, some}
-use native.Mathlib.Omega.{arith}
+use mathlib.Core.Option.{none}
 use lib.Dec.{eqb, ltb, leb}
 use borrow.Author.Tests.{eq-eqb, ne-eqb, lt-ltb, le-ltb, ltb-true, ltb-false, le-leb, lt-leb}
 use Rattle.bounded.specs.Bounded.{firstBelow, countBelow}
@@ -26,6 +25,7 @@ use Rattle.model.specs.Run.{firstFault}
 use Rattle.cells.specs.Changed.{keyPlace, entityPlace}
 use Rattle.asked.specs.declared.pairs.Rule.the-variants as Rules
 use Rattle.asked.specs.Facts.{ruleOf}
+use Rattle.theory.proofs.Accepted.{passed}
 use Rattle.theory.proofs.Seen.{seen-at, seen-own}
 use Rattle.change.specs.declared.tests.Test.the-variants as Tests
 use Rattle.change.specs.Facts.{Answered, refuses, does, sight, Uplevels}
@@ -85,17 +85,6 @@ turned true false = refl
 turned false true = refl
 turned false false = refl
 
-no-fault : {P : Type 0} {f : Fault} → some f ≡ none → P
-no-fault e = let z : _≡_ {A = ℕ} 0 1 = cc in absurd (omega arith)
-
-last-passes : (t u v w : Bool) → firstFault ((t, Faults.Taken) ∷ (u, Faults.KeyClass) ∷ (v, Faults.Reference) ∷ (w, Faults.Full) ∷ []) ≡ none → w ≡ true
-unfolding firstFault
-last-passes t u v true e = refl
-last-passes false u v false e = no-fault e
-last-passes true false v false e = no-fault e
-last-passes true true false false e = no-fault e
-last-passes true true true false e = no-fault e
-
 module _ (d : Description) (vs cs : List ℕ) (c r key class : ℕ) (list : List ℕ) (o : over d c c ≡ true) (nz : key ≢ 0) {here : ℕ} (e : here ≡ entityPlace d vs cs r c key class) where
   abbrev S : State
   S = stateOf d (holding vs cs)
@@ -145,7 +134,7 @@ module _ (d : Description) (vs cs : List ℕ) (c r key class : ℕ) (list : List
   -- where no test fails there is a place
   pub room : firstFault tests ≡ none → spotOf d r here (S c .rows) < rowCount d r
   unfolding laterTests
-  room n = ltb-true _ _ (sym full-test ∙ last-passes _ _ _ _ n)
+  room n = ltb-true _ _ (sym full-test ∙ passed _ _ (passed _ _ (passed _ _ (passed _ _ n .1) .1) .1) .0)
 
 -- ---- one test before others
 

@@ -1,9 +1,14 @@
-use Rattle.change.proofs.Known.{ordered, own-level, naming, sized, lent}
-use Rattle.chosen.proofs.Carrying.{met-chosen}
-use Rattle.delete.proofs.Deleted.{delete-referred, delete-done}
 use borrow.Author.Needs.{needs}
+use Rattle.change.proofs.Ended.{failed-answer, passed-by}
+use Rattle.change.proofs.Known.{ordered, own-level, naming, lent}
+use Rattle.chosen.proofs.Carrying.{met-chosen}
+use Rattle.delete.proofs.Deleted.{delete-done}
 use Rattle.delete.proofs.delete.Statement.{statement}
 use Rattle.delete.proofs.delete.Tie as tie
+
+-- the start, as it is seen where the rows are chosen
+abbrev start : tie.After-chosen → tie.Start
+start c = c .before .before .before .before .before .before
 
 chosen-requires : tie.Need-chosen-requires
 chosen-requires c κs =
@@ -11,10 +16,14 @@ chosen-requires c κs =
     let k = s .pre .0 in
     ((lent k, own-level k), record { ordered = ordered k; formed = s .pre .1 })
 
-referred-requires : tie.Need-referred-requires
-referred-requires c κs =
-    let k = c .before .before .before .before .before .before .before .pre .0 in
-    ((sized k, own-level k), naming k)
+check-requires : tie.Need-check-requires
+check-requires c κs =
+    let m = c .before .before in
+    let k = start m .pre .0 in
+    ((naming k, k .laid), m .chosen .ensures)
+
+enum-known-test : tie.Need-enum-known-test
+enum-known-test c = search needs
 
 same-length : tie.Need-same-length
 same-length c = search needs
@@ -23,19 +32,18 @@ same-length-2 : tie.Need-same-length-2
 same-length-2 c = search needs
 
 returns : tie.Need-returns
-returns c =
-    let m = c .before .before .before in
-    let s = m .before .before .before .before .before .before in
-    delete-referred (s .pre .0) _ (m .chosen .ensures) (c .before .referred .ensures) (c .if1 .taken)
+returns c = let k = c .before .before .before in failed-answer (k .check .ensures) (c .before .test .given .1)
+
+enum-told : tie.Need-enum-told
+enum-told c = search needs
 
 count-requires : tie.Need-count-requires
 count-requires c κs = search needs
 
 write-requires : tie.Need-write-requires
 write-requires c κs =
-    let m = c .before .before .before .before .before .before in
-    let s = m .before .before .before .before .before .before in
-    (s .pre .0, met-chosen _ _ _ _ _ (m .chosen .ensures))
+    let m = c .before .before .before .before .before .before .before .before in
+    (start m .pre .0, met-chosen _ _ _ _ _ (m .chosen .ensures))
 
 same-length-3 : tie.Need-same-length-3
 same-length-3 c = search needs
@@ -47,20 +55,22 @@ returns-2 : tie.Need-returns-2
 returns-2 c =
     let w = c .before .before .before .before in
     let n = w .before .before .before in
-    let r = n .before .before in
-    let m = r .before .before in
-    let s = m .before .before .before .before .before .before in
-    delete-done (s .pre .0) _ (m .chosen .ensures) (r .referred .ensures) (n .before .if1 .left) (n .count .ensures) (w .write .ensures)
+    let t = n .before in
+    let k = t .before .before in
+    let m = k .before .before .before in
+    delete-done (start m .pre .0) _ (m .chosen .ensures) (passed-by (k .check .ensures) (t .enum-told .given .1)) (n .count .ensures) (w .write .ensures)
 
 pub delete-spec : {M : Type 1} → statement M
 delete-spec =
     tie.close
     (tie.spec
     chosen-requires
-    referred-requires
+    check-requires
+    enum-known-test
     same-length
     same-length-2
     returns
+    enum-told
     count-requires
     write-requires
     same-length-3

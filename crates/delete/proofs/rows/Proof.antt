@@ -1,39 +1,36 @@
 -- The invariant: the rows that were passed are emptied where they are chosen, and nothing else has changed.
 use Prim.Native.Nat.{_-_, _≤_}
-use mathlib.Core.Path.{_≡_, refl, _∙_}
+use mathlib.Core.Path.{_≡_, refl, ap, _∙_}
+use mathlib.Core.Logic.{inl, inr}
 use native.Mathlib.Omega.{arith}
 use lib.ListN.{length}
-use Rattle.model.specs.Description.{columnCount}
 use Rattle.model.specs.Tables.{norow}
-use Rattle.model.specs.Buffers.{holding, stateOf}
-use Rattle.cells.specs.Changed.{changeLevel}
-use Rattle.above.specs.Facts.{withRows}
 use Rattle.above.proofs.Turns.{rows-start, rows-end}
-use Rattle.chosen.specs.Choosing.{rowChosen}
-use Rattle.chosen.proofs.Choosing.{chosen-more}
+use Rattle.chosen.specs.Choosing.{RowsDoneBelow}
+use Rattle.chosen.proofs.Choosing.{more-chosen, more-unchosen}
+use borrow.Author.Needs.{needs}
 use Rattle.delete.proofs.rows.Statement.{statement}
 use Rattle.delete.proofs.rows.Tie as tie
 
 abbrev Inv-loop : tie.InvT-loop
-Inv-loop values₀ classes₀ description relation part chosen level rows i₀ values classes i =
+Inv-loop values₀ classes₀ description relation part level chosen rows i₀ values classes i =
     (i ≤ rows)
     × (length values ≡ length values₀)
     × (length classes ≡ length classes₀)
-    × (stateOf description (holding values classes)
-    ≡ changeLevel
-    level
-    (withRows i (columnCount description relation) relation (λ j. rowChosen chosen (λ R. norow) j (stateOf description (holding values₀ classes₀) level .rows relation j)))
-    (stateOf description (holding values₀ classes₀)))
+    × RowsDoneBelow i description relation level chosen (λ R. norow) values₀ classes₀ values classes
 
 abbrev μ-loop : tie.MeasureT-loop
-μ-loop values₀ classes₀ description relation part chosen level rows i₀ values classes i = rows - i
+μ-loop values₀ classes₀ description relation part level chosen rows i₀ values classes i = rows - i
 
 loop-holds : tie.Need-loop-holds Inv-loop μ-loop
 loop-holds c = (omega arith, refl, refl, rows-start _ _ _ _ _)
 
-row-requires : tie.Need-row-requires Inv-loop μ-loop
-row-requires c κs =
-    let t = c .before .before in
+array-read-if1 : tie.Need-array-read-if1 Inv-loop μ-loop
+array-read-if1 c = search needs
+
+clear-requires : tie.Need-clear-requires Inv-loop μ-loop
+clear-requires c κs =
+    let t = c .before .before .before in
     let l = t .before .loop in
     let s = t .before .before .before .before in (
       record { laid = s .pre .0 .laid; values = l .inv .1 ∙ s .pre .0 .values; classes = l .inv .2 ∙ s .pre .0 .classes },
@@ -41,19 +38,28 @@ row-requires c κs =
     )
 
 add-i : tie.Need-add-i Inv-loop μ-loop
-add-i c =
-    let s = c .before .before .before .before .before .before .before .before .before .before .before in
-    omega (arith, s .pre .0 .laid .few)
+add-i c = let s = c .before .before .before .before .before in omega (arith, s .pre .0 .laid .few)
 
 loop-less : tie.Need-loop-less Inv-loop μ-loop
 loop-less c = omega arith
 
 loop-again : tie.Need-loop-again Inv-loop μ-loop
 loop-again c =
-    let k = c .before .before .before .before .row in
-    let t = c .before .before .before .before .before .before .before in
-    let l = t .before .loop in
-    (omega (arith, t .loop-test .taken), k .kept .0 ∙ l .inv .1, k .kept .1 .0 ∙ l .inv .2, chosen-more _ _ _ _ _ _ _ (λ R. norow) (l .i) (l .inv .3) (k .ensures))
+    let l = c .before .before .loop in
+    elim (c .if1 .came) [
+      | inl x ↦ (
+        omega arith,
+        ap length (x .8) ∙ x .3 .kept .0 ∙ l .inv .1,
+        ap length (x .9) ∙ x .3 .kept .1 .0 ∙ l .inv .2,
+        more-chosen _ _ _ _ _ (λ R. norow) (l .i) _ _ _ _ (l .inv .3) (x .8) (x .9) (x .0 .taken) (x .3 .ensures),
+      )
+      | inr x ↦ (
+        omega arith,
+        ap length (x .1) ∙ l .inv .1,
+        ap length (x .2) ∙ l .inv .2,
+        more-unchosen _ _ _ _ _ (λ R. norow) (l .i) _ _ _ _ (l .inv .3) (x .1) (x .2) (x .0 .left),
+      )
+    ]
 
 same-length : tie.Need-same-length Inv-loop μ-loop
 same-length c = c .before .loop .inv .1
@@ -73,7 +79,8 @@ rows-spec =
     Inv-loop
     μ-loop
     loop-holds
-    row-requires
+    array-read-if1
+    clear-requires
     add-i
     loop-less
     loop-again

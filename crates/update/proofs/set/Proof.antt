@@ -4,11 +4,9 @@ use Prim.Native.Nat.{_*_, _-_, _≤_}
 use mathlib.Core.Path.{_≡_, refl, _∙_}
 use native.Mathlib.Omega.{arith}
 use lib.ListN.{length}
-use Rattle.model.specs.Description.{columnCount}
-use Rattle.model.specs.Buffers.{holding, stateOf}
 use Rattle.model.specs.Listed.{pairs as pairsOf, columnAt, secondAt}
 use Rattle.model.proofs.Border.{inside-shown}
-use Rattle.cells.specs.Changed.{withRow, changeLevel}
+use Rattle.chosen.specs.Choosing.{RowDone}
 use Rattle.update.proofs.Setting.{setBelow, set-start, set-more, set-end}
 use Rattle.update.proofs.set.Statement.{statement}
 use Rattle.update.proofs.set.Tie as tie
@@ -18,8 +16,7 @@ Inv-loop values₀ classes₀ list description relation part level row pairs i�
     (i ≤ pairs)
     × (length values ≡ length values₀)
     × (length classes ≡ length classes₀)
-    × (stateOf description (holding values classes)
-    ≡ changeLevel level (withRow (columnCount description relation) relation row (setBelow i level list (stateOf description (holding values₀ classes₀) level .rows relation row))) (stateOf description (holding values₀ classes₀)))
+    × RowDone description relation level row (setBelow i level list) values₀ classes₀ values classes
 
 abbrev μ-loop : tie.MeasureT-loop
 μ-loop values₀ classes₀ list description relation part level row pairs i₀ values classes i = pairs - i
