@@ -35,7 +35,7 @@ use Rattle.cells.specs.Changed.{changeLevel}
 use Rattle.asked.specs.declared.pairs.Rule.the-variants as Rules
 use Rattle.asked.specs.Facts.{ruleOf}
 use Rattle.conditions.specs.Facts.{ChosenBy, Counted, metAt}
-use Rattle.above.specs.declared.Plan.{Plan}
+use Rattle.above.specs.declared.plan.Plan.{Plan}
 use Rattle.above.specs.Facts.{changeOf, aboveOf, carried, withRows, Planned}
 use Rattle.above.proofs.Carried.{carried-own}
 use Rattle.theory.proofs.Seen.{seen-own}
