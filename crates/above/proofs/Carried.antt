@@ -26,7 +26,7 @@ use Rattle.theory.proofs.Fine.{no-level}
 use Rattle.theory.proofs.Seek.{Sought, there, nowhere, sought}
 use Rattle.theory.proofs.Reach.{carry-own, carry-above, carry-aside, Side, at-c, over-c, off-c, side}
 use Rattle.cells.proofs.Changes.{level-path}
-use Rattle.above.specs.declared.Plan.{Plan}
+use Rattle.above.specs.declared.plan.Plan.{Plan}
 use Rattle.above.specs.Facts.{chosenAt, aboveOf, carried, touchedBy, turnedBy, turned, rowAfter, withRows, goneBy, rowUnnamed, withReferrers, givenBy, Working, Planned}
 use Rattle.above.proofs.Referred.{unlike, done-named}
 use Rattle.above.proofs.Taken.{foreign-small}

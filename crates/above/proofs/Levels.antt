@@ -18,7 +18,7 @@ use Rattle.model.specs.Effect.{keep, changed, goneAt, reach}
 use Rattle.theory.proofs.Described.{sound-laws}
 use Rattle.theory.proofs.Reach.{Side, at-c, over-c, off-c, side}
 use Rattle.cells.specs.Changed.{changeLevel}
-use Rattle.above.specs.declared.Plan.{Plan}
+use Rattle.above.specs.declared.plan.Plan.{Plan}
 use Rattle.above.specs.Facts.{chosenAt, changeOf, aboveOf, carried, carriedBelow, Working, Planned}
 use Rattle.above.proofs.Carried.{carried-own, carried-cell, carried-local, off, reach-nothing}
 

@@ -18,7 +18,7 @@ use Rattle.cells.specs.Changed.{valueAt, changeLevel}
 use Rattle.cells.proofs.Cells.{state-cell}
 use Rattle.cells.proofs.Changes.{change-same, change-here, change-other, change-on}
 use Rattle.asked.specs.Facts.{Ordered, Related}
-use Rattle.above.specs.declared.Plan.{Plan}
+use Rattle.above.specs.declared.plan.Plan.{Plan}
 use Rattle.above.specs.Facts.{carried, rowAfter, withRows, withReferrers, givenBy, OneRow, Apart, Working, Planned}
 use Rattle.above.proofs.Referred.{done-named}
 use Rattle.above.proofs.Carried.{carried-own, carried-aside, not-self, carried-above}

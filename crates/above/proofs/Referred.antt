@@ -18,7 +18,7 @@ use Rattle.cells.specs.Layout.{InLevel}
 use Rattle.cells.specs.Changed.{changeLevel}
 use Rattle.cells.proofs.Counts.{relation-few}
 use Rattle.cells.proofs.Changes.{level-path, change-as, change-same, change-here, change-other, change-on}
-use Rattle.above.specs.declared.Plan.{Plan}
+use Rattle.above.specs.declared.plan.Plan.{Plan}
 use Rattle.above.specs.Facts.{Apart, Referring, goneBy, rowUnnamed, withRows, withReferrer, withReferrers}
 use Rattle.above.proofs.Unnamed.{unnamed-keeps, Alike, unnamed-same}
 

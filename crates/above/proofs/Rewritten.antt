@@ -19,7 +19,7 @@ use Rattle.cells.specs.Changed.{valueAt, classAt, withCell, withRow, changeLeve
 use Rattle.cells.proofs.Cells.{state-cell}
 use Rattle.cells.proofs.Changes.{level-path, change-same, change-here, change-other}
 use Rattle.cells.proofs.Written.{row-more, row-same}
-use Rattle.above.specs.declared.Plan.{Plan}
+use Rattle.above.specs.declared.plan.Plan.{Plan}
 use Rattle.above.specs.Facts.{OneRow, touchedBy, becomes, turnedBy, turned, rowAfter, withRows}
 use Rattle.above.proofs.Turns.{rows-more, rows-still}
 

@@ -19,7 +19,7 @@ use Rattle.model.specs.Buffers.{holding, stateOf}
 use Rattle.cells.specs.Changed.{valueAt, classAt, keyPlace}
 use Rattle.cells.proofs.Cells.{state-cell}
 use Rattle.cells.proofs.Sought.{place-key, at-there, at-nowhere}
-use Rattle.above.specs.declared.Plan.{Plan}
+use Rattle.above.specs.declared.plan.Plan.{Plan}
 use Rattle.above.specs.Facts.{OneRow, chosenAt, touchedBy, goneBy}
 
 -- a row that has the key is the row of the key, where no key stands in two rows

@@ -18,7 +18,7 @@ use Rattle.model.specs.Effect.{take, agrees, changed}
 use Rattle.theory.proofs.Fine.{cell-path}
 use Rattle.theory.proofs.Reach.{null-value}
 use Rattle.cells.proofs.Counts.{relation-is, foreign-is, target-relation}
-use Rattle.above.specs.declared.Plan.{Plan}
+use Rattle.above.specs.declared.plan.Plan.{Plan}
 use Rattle.above.specs.Facts.{changeOf, becomes, lostBy, handed, givenBy, Planned}
 
 -- ---- the relation that is referred to

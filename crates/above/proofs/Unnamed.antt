@@ -24,7 +24,7 @@ use Rattle.cells.proofs.Cells.{state-cell}
 use Rattle.cells.proofs.Changes.{level-path, change-as, change-same, change-here, change-other}
 use Rattle.cells.proofs.Written.{row-same}
 use Rattle.cells.proofs.Sought.{key-is, at-row, at-nowhere}
-use Rattle.above.specs.declared.Plan.{Plan}
+use Rattle.above.specs.declared.plan.Plan.{Plan}
 use Rattle.above.specs.Facts.{Referring, goneBy, rowUnnamed, withRows}
 use Rattle.above.proofs.Turns.{rows-next, rows-more}
 

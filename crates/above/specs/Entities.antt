@@ -11,7 +11,7 @@ use Rattle.model.specs.Tables.{State, rowsOf, same, at}
 use Rattle.model.specs.Buffers.{holding, stateOf}
 use Rattle.cells.specs.declared.layout.Part.{Part}
 use Rattle.cells.specs.Layout.{Lent}
-use Rattle.above.specs.declared.Plan.{Plan}
+use Rattle.above.specs.declared.plan.Plan.{Plan}
 use Rattle.above.specs.Facts.{Working, Planned, touchedBy}
 
 -- ---- what is known

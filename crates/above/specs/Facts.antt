@@ -17,7 +17,7 @@ use Rattle.model.specs.Effect.{Rows, Change, keep, take, only, Above, agrees}
 use Rattle.model.specs.Run.{left}
 use Rattle.cells.specs.Layout.{InLevel}
 use Rattle.cells.specs.Changed.{valueAt}
-use Rattle.above.specs.declared.Plan.{Plan}
+use Rattle.above.specs.declared.plan.Plan.{Plan}
 
 -- ---- what is known
 

@@ -5,19 +5,15 @@ use mathlib.Core.Path.{_≡_}
 use mathlib.Core.List.{List}
 use Rattle.model.specs.declared.Description.{Description}
 use Rattle.model.specs.Description.{rowCount, columnCount}
-use Rattle.model.specs.Tables.{Cell, Row, State}
+use Rattle.model.specs.Tables.{Row, State}
 use Rattle.model.specs.Buffers.{holding, stateOf}
-use Rattle.cells.specs.Stored.{LevelBecomes, CellBecomes, RowBecomes}
-use Rattle.above.specs.declared.Plan.{Plan}
-use Rattle.above.specs.Facts.{turnedBy, turned, rowAfter, withRows, rowUnnamed, withReferrer, withReferrers, carried}
+use Rattle.cells.specs.Stored.{LevelBecomes, RowBecomes}
+use Rattle.above.specs.declared.plan.Plan.{Plan}
+use Rattle.above.specs.Facts.{turned, rowAfter, withRows, rowUnnamed, withReferrer, withReferrers, carried}
 
 -- ---- rows of the relation
 
--- a cell of the subject's class becomes what the plan's kind and cell make of it, and all else stays
-abbrev pub CellTurns : Description → ℕ → ℕ → ℕ → ℕ → ℕ → Cell → ℕ → List ℕ → List ℕ → List ℕ → List ℕ → Type 0
-CellTurns d r l i k kind n c vs cs = CellBecomes d r l i k (turnedBy kind n c (stateOf d (holding vs cs) l .rows r i k)) vs cs
-
--- so do the cells of a row
+-- a row's cells of the subject's class become what the plan makes of them, and all else stays
 abbrev pub CellsTurn : Description → ℕ → Plan → ℕ → ℕ → ℕ → List ℕ → List ℕ → List ℕ → List ℕ → Type 0
 CellsTurn d r P c l i vs cs =
     RowBecomes d r l i (λ k. turned (P .kinds) (P .values) (P .classes) c k (stateOf d (holding vs cs) l .rows r i k)) vs cs

@@ -1,5 +1,5 @@
 // Rows of one entity at two levels.
-use crate::Plan;
+use crate::plan::Plan;
 use cells::layout::Part;
 use cells::read::class_at;
 use cells::read::value_at;

@@ -1,24 +1,15 @@
 // What a statement leaves in the rows above its subject's level.
 pub mod find;
+pub mod plan;
 mod reach;
 mod references;
 mod rows;
 
+use crate::plan::Plan;
 use cells::layout::Part;
 use model::Description;
 ghost use Rattle.above.specs.Entities.{Carrying, PlannedIn};
 ghost use Rattle.above.specs.Turns.{LevelsTurn};
-
-// What a statement does to the rows above, of one relation. A row at the subject's level is touched where it is chosen; its entity's rows
-// above are emptied where `gone` holds and the entity is the subject's own; else their cells of the subject's class change, by column:
-// 0 the cell stays, 1 it becomes this cell, 2 it becomes null, class kept, unless it is this cell.
-pub struct Plan {
-    pub chosen: [bool; 64],
-    pub gone: bool,
-    pub kinds: [u8; 9],
-    pub values: [u32; 9],
-    pub classes: [u8; 9],
-}
 
 // Every level above is reached, each by itself.
 pub fn above(

@@ -1,6 +1,6 @@
 // One level above.
-use crate::Plan;
 use crate::find::agree;
+use crate::plan::Plan;
 use crate::references::referrers;
 use crate::rows::rows;
 use asked::ranges::null;

@@ -1,6 +1,6 @@
 // The references above to rows that are emptied.
-use crate::Plan;
 use crate::find::gone;
+use crate::plan::Plan;
 use cells::layout::Part;
 use cells::layout::lay;
 use cells::read::class_at;

@@ -1,6 +1,6 @@
 // The rows above of the relation that a statement is about.
-use crate::Plan;
 use crate::find::touched;
+use crate::plan::Plan;
 use cells::layout::Part;
 use cells::read::class_at;
 use cells::read::value_at;
@@ -8,13 +8,11 @@ use cells::write::clear;
 use cells::write::put;
 use model::Description;
 ghost use mathlib.Core.Path.{_≡_};
-ghost use mathlib.Core.Bool.{true};
 ghost use lib.ListN.{length};
 ghost use Rattle.model.specs.Tables.{cell as cellOf};
-ghost use Rattle.model.specs.Buffers.{inside};
 ghost use Rattle.cells.specs.Layout.{Lent, InLevel, InRow};
 ghost use Rattle.above.specs.Facts.{OneRow, Apart, becomes};
-ghost use Rattle.above.specs.Turns.{CellTurns, CellsTurn, RowTurns, RowsTurn};
+ghost use Rattle.above.specs.Turns.{CellsTurn, RowTurns, RowsTurn};
 
 // The value of a cell of the subject's class afterwards.
 fn value(kind: u8, planned: u32, owner: u8, subject: u8, x: u32) -> u32
@@ -45,47 +43,7 @@ fn class(kind: u8, planned: u32, owner: u8, subject: u8, x: u32) -> u8
     subject
 }
 
-// A cell of the subject's class changes as planned.
-fn cell(
-    values: &mut [u32],
-    classes: &mut [u8],
-    description: Description,
-    relation: usize,
-    part: Part,
-    kind: u8,
-    planned: u32,
-    owner: u8,
-    subject: u8,
-    level: usize,
-    row: usize,
-    column: usize,
-)
-    requires { ⌜ Lent description relation part (length (now values)) (length (now classes)) ⌝ }
-    requires { ⌜ inside description relation level row column ≡ true ⌝ }
-    ensures { λ _. ⌜ CellTurns description relation level row column kind (cellOf planned owner) subject (now (values .entry)) (now (classes .entry)) (now (values .exit)) (now (classes .exit)) ⌝ }
-{
-    let owned = class_at(classes, description, relation, part, level, row, column);
-    if owned != subject {
-        return;
-    }
-    let x = value_at(values, description, relation, part, level, row, column);
-    let new = value(kind, planned, owner, subject, x);
-    let whose = class(kind, planned, owner, subject, x);
-    put(
-        values,
-        classes,
-        description,
-        relation,
-        part,
-        level,
-        row,
-        column,
-        new,
-        whose,
-    );
-}
-
-// The cells of a row.
+// The cells of a row that are of the subject's class change as planned.
 fn cells(
     values: &mut [u32],
     classes: &mut [u8],
@@ -105,19 +63,26 @@ fn cells(
     let mut column = 0;
     while column < columns {
         column += 1;
-        cell(
+        if class_at(classes, description, relation, part, level, row, column) != subject {
+            continue;
+        }
+        let kind = plan.kinds[column];
+        let planned = plan.values[column];
+        let owner = plan.classes[column];
+        let x = value_at(values, description, relation, part, level, row, column);
+        let new = value(kind, planned, owner, subject, x);
+        let whose = class(kind, planned, owner, subject, x);
+        put(
             values,
             classes,
             description,
             relation,
             part,
-            plan.kinds[column],
-            plan.values[column],
-            plan.classes[column],
-            subject,
             level,
             row,
             column,
+            new,
+            whose,
         );
     }
 }

@@ -33,7 +33,7 @@ use Rattle.cells.specs.Changed.{changeLevel}
 use Rattle.cells.proofs.Cells.{state-path}
 use Rattle.cells.proofs.Changes.{change-here, change-other}
 use Rattle.conditions.specs.Facts.{ChosenBy, Counted, metAt}
-use Rattle.above.specs.declared.Plan.{Plan}
+use Rattle.above.specs.declared.plan.Plan.{Plan}
 use Rattle.above.specs.Facts.{chosenAt, aboveOf, carried, withRows, Working}
 use Rattle.above.proofs.Carried.{carried-own, carried-aside, carried-cell}
 use Rattle.change.specs.Facts.{Standing, sight, metRows}

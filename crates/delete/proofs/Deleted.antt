@@ -29,7 +29,7 @@ use Rattle.cells.specs.Changed.{valueAt, keyPlace, changeLevel}
 use Rattle.cells.proofs.Cells.{state-cell}
 use Rattle.cells.proofs.Sought.{place-key}
 use Rattle.conditions.specs.Facts.{Counted}
-use Rattle.above.specs.declared.Plan.{Plan}
+use Rattle.above.specs.declared.plan.Plan.{Plan}
 use Rattle.above.specs.Facts.{chosenAt, changeOf, aboveOf, carried, withRows, Working, Planned}
 use Rattle.theory.proofs.Seen.{seen-own}
 use Rattle.change.specs.Facts.{Standing, Deletes, does, sight}

@@ -1,6 +1,6 @@
 // DELETE.
-use above::Plan;
 use above::above;
+use above::plan::Plan;
 use cells::layout::Part;
 use cells::layout::lay;
 use cells::read::value_at;

@@ -32,7 +32,7 @@ use Rattle.model.proofs.Sound.{between-r, column-r}
 use Rattle.cells.specs.declared.layout.Part.{Part}
 use Rattle.cells.specs.Changed.{changeLevel}
 use Rattle.conditions.specs.Facts.{Counted}
-use Rattle.above.specs.declared.Plan.{Plan}
+use Rattle.above.specs.declared.plan.Plan.{Plan}
 use Rattle.above.specs.Facts.{changeOf, aboveOf, carried, withRows, Planned}
 use Rattle.change.specs.Facts.{Standing, Updates, does, sight, metRows, valueListed}
 use Rattle.chosen.specs.Choosing.{Listing, ByColumn, Picked, Chosen, kindListed, rowChosen, setChosen}

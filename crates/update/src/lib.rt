@@ -1,6 +1,6 @@
 // UPDATE.
-use above::Plan;
 use above::above;
+use above::plan::Plan;
 use asked::pairs::Rule;
 use asked::pairs::each;
 use asked::pairs::find;

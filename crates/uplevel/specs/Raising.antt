@@ -19,7 +19,7 @@ use Rattle.model.specs.Effect.{Rows, agrees, lowestEmpty, hasRoom}
 use Rattle.model.specs.Uplevel.{based, borrowedNames, raised}
 use Rattle.cells.specs.declared.layout.Part.{Part}
 use Rattle.cells.specs.Layout.{Laid}
-use Rattle.above.specs.declared.Plan.{Plan}
+use Rattle.above.specs.declared.plan.Plan.{Plan}
 use Rattle.uplevel.specs.declared.made.News.{News}
 use Rattle.change.specs.Facts.{Filled}
 

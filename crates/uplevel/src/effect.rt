@@ -1,8 +1,8 @@
 // The effect: where the new row goes, and what becomes of the rows above.
 use crate::made::News;
 use crate::made::compose;
-use above::Plan;
 use above::above;
+use above::plan::Plan;
 use cells::layout::Part;
 use cells::search::lowest;
 use cells::write::store;

@@ -1,15 +1,20 @@
 -- The invariant: the first columns of the row are as planned, and nothing else has changed.
-use Prim.Native.Nat.{_≤_, _-_}
-use mathlib.Core.Path.{_≡_, refl, _∙_}
+use Prim.Native.Nat.{ℕ, _+_, _≤_, _<_, _-_}
+use mathlib.Core.Bool.{true}
+use mathlib.Core.Path.{_≡_, refl, sym, _∙_}
 use native.Mathlib.Omega.{arith}
 use lib.ListN.{length}
-use Rattle.model.specs.Buffers.{holding, stateOf}
+use borrow.Author.Needs.{needs}
+use Rattle.model.specs.declared.Description.{Description}
+use Rattle.model.specs.Buffers.{holding, inside, stateOf}
 use Rattle.model.proofs.Border.{inside-shown}
+use Rattle.cells.specs.declared.layout.Part.{Part}
+use Rattle.cells.specs.Layout.{Laid, InRow}
 use Rattle.cells.specs.Changed.{withRow}
 use Rattle.cells.specs.Stored.{LevelBecomes}
 use Rattle.cells.proofs.Written.{row-start, row-end}
 use Rattle.above.specs.Facts.{turned}
-use Rattle.above.proofs.Rewritten.{cells-turned}
+use Rattle.above.proofs.Rewritten.{cell-kept, cell-turned, cells-turned}
 use Rattle.above.proofs.rows.cells.Statement.{statement}
 use Rattle.above.proofs.rows.cells.Tie as tie
 
@@ -26,47 +31,95 @@ Inv-loop values₀ classes₀ description relation part subject level row plan c
 abbrev μ-loop : tie.MeasureT-loop
 μ-loop values₀ classes₀ description relation part subject level row plan columns column₀ values classes column = columns - column
 
+-- the next column is one of the row's
+next : (d : Description) (r l i k : ℕ) (p : Part) → InRow d r l i → Laid d r p → k < p .columns → inside d r l i (k + 1) ≡ true
+next d r l i k p h q t =
+    inside-shown _ _ _ _ _ (record { relation = h .level .relation; level = h .level .level; row = h .row; least = omega arith; column = omega (arith, q .columns, t) })
+
 loop-holds : tie.Need-loop-holds Inv-loop μ-loop
 loop-holds c = (omega arith, refl, refl, row-start _ _ _ _ _)
 
 add-column : tie.Need-add-column Inv-loop μ-loop
 add-column c = let s = c .before .before .before .before in omega (arith, s .pre .0 .laid .narrow)
 
-element-copy-out-cell : tie.Need-element-copy-out-cell Inv-loop μ-loop
-element-copy-out-cell c = let s = c .before .before .before .before .before .before in omega (arith, s .pre .0 .laid .narrow, c .before .before .loop-test .taken)
-
-mul-cell : tie.Need-mul-cell Inv-loop μ-loop
-mul-cell c = let s = c .before .before .before .before .before .before .before in omega (arith, s .pre .0 .laid .narrow, c .before .before .before .loop-test .taken)
-
-element-copy-out-cell-2 : tie.Need-element-copy-out-cell-2 Inv-loop μ-loop
-element-copy-out-cell-2 c = let s = c .before .before .before .before .before .before .before in omega (arith, s .pre .0 .laid .narrow, c .before .before .before .loop-test .taken)
-
-element-copy-out-cell-3 : tie.Need-element-copy-out-cell-3 Inv-loop μ-loop
-element-copy-out-cell-3 c = let s = c .before .before .before .before .before .before .before .before in omega (arith, s .pre .0 .laid .narrow, c .before .before .before .before .loop-test .taken)
-
-cell-requires : tie.Need-cell-requires Inv-loop μ-loop
-cell-requires c κs =
-    let l = c .before .before .before .before .before .before .loop in
-    let s = c .before .before .before .before .before .before .before .before .before in (
-      record { laid = s .pre .0 .laid; values = l .inv .1 ∙ s .pre .0 .values; classes = l .inv .2 ∙ s .pre .0 .classes },
-      inside-shown _ _ _ _ _ (record {
-        relation = s .pre .1 .level .relation;
-        level = s .pre .1 .level .level;
-        row = s .pre .1 .row;
-        least = omega arith;
-        column = omega (arith, s .pre .0 .laid .columns, c .before .before .before .before .before .loop-test .taken);
-      }),
+class-at-requires : tie.Need-class-at-requires Inv-loop μ-loop
+class-at-requires c κs =
+    let l = c .before .before .loop in
+    let s = c .before .before .before .before .before in (
+      record { laid = s .pre .0 .laid; size = l .inv .2 ∙ s .pre .0 .classes },
+      next _ _ _ _ _ _ (s .pre .1) (s .pre .0 .laid) (c .before .loop-test .taken),
     )
 
 loop-less : tie.Need-loop-less Inv-loop μ-loop
 loop-less c = omega arith
 
+-- a cell of another class stays
 loop-again : tie.Need-loop-again Inv-loop μ-loop
 loop-again c =
-    let k = c .before .before .before .before .cell in
-    let t = c .before .before .before .before .before .before .before .before .before .before in
+    let t = c .before .before .before in
     let l = t .before .loop in
-    (omega (arith, t .loop-test .taken), k .kept .0 ∙ l .inv .1, k .kept .1 .0 ∙ l .inv .2, cells-turned _ _ _ _ _ _ _ _ _ _ _ (l .inv .3) (k .ensures))
+    (omega (arith, t .loop-test .taken), l .inv .1, l .inv .2, cells-turned _ _ _ _ _ _ _ _ _ _ _ (l .inv .3) (cell-kept _ _ _ _ _ _ _ _ _ _ (λ e. c .if1 .taken (c .before .class-at .ensures ∙ e))))
+
+element-copy-out-kind : tie.Need-element-copy-out-kind Inv-loop μ-loop
+element-copy-out-kind c = let s = c .before .before .before .before .before .before .before in omega (arith, s .pre .0 .laid .narrow, c .before .before .before .loop-test .taken)
+
+mul-planned : tie.Need-mul-planned Inv-loop μ-loop
+mul-planned c = let s = c .before .before .before .before .before .before .before .before in omega (arith, s .pre .0 .laid .narrow, c .before .before .before .before .loop-test .taken)
+
+element-copy-out-planned : tie.Need-element-copy-out-planned Inv-loop μ-loop
+element-copy-out-planned c = let s = c .before .before .before .before .before .before .before .before in omega (arith, s .pre .0 .laid .narrow, c .before .before .before .before .loop-test .taken)
+
+element-copy-out-owner : tie.Need-element-copy-out-owner Inv-loop μ-loop
+element-copy-out-owner c = let s = c .before .before .before .before .before .before .before .before .before in omega (arith, s .pre .0 .laid .narrow, c .before .before .before .before .before .loop-test .taken)
+
+value-at-requires : tie.Need-value-at-requires Inv-loop μ-loop
+value-at-requires c κs =
+    let l = c .before .before .before .before .before .before .before .before .loop in
+    let s = c .before .before .before .before .before .before .before .before .before .before .before in (
+      record { laid = s .pre .0 .laid; size = l .inv .1 ∙ s .pre .0 .values },
+      next _ _ _ _ _ _ (s .pre .1) (s .pre .0 .laid) (c .before .before .before .before .before .before .before .loop-test .taken),
+    )
+
+value-requires : tie.Need-value-requires Inv-loop μ-loop
+value-requires c κs = search needs
+
+class-requires : tie.Need-class-requires Inv-loop μ-loop
+class-requires c κs = search needs
+
+put-requires : tie.Need-put-requires Inv-loop μ-loop
+put-requires c κs =
+    let l = c .before .before .before .before .before .before .before .before .before .before .before .before .before .loop in
+    let s = c .before .before .before .before .before .before .before .before .before .before .before .before .before .before .before .before in (
+      record { laid = s .pre .0 .laid; values = l .inv .1 ∙ s .pre .0 .values; classes = l .inv .2 ∙ s .pre .0 .classes },
+      next _ _ _ _ _ _ (s .pre .1) (s .pre .0 .laid) (c .before .before .before .before .before .before .before .before .before .before .before .before .loop-test .taken),
+    )
+
+loop-less-2 : tie.Need-loop-less-2 Inv-loop μ-loop
+loop-less-2 c = omega arith
+
+-- a cell of the subject's class is stored as it becomes
+loop-again-2 : tie.Need-loop-again-2 Inv-loop μ-loop
+loop-again-2 c =
+    let p = c .before .before .before .before .put in
+    let w = c .before .before .before .before .before .before .before in
+    let v = w .before .before in
+    let o = v .before .before .before .before .before in
+    let t = o .before .before .before in
+    let l = t .before .loop in (
+      omega (arith, t .loop-test .taken),
+      p .kept .0 ∙ l .inv .1,
+      p .kept .1 .0 ∙ l .inv .2,
+      cells-turned
+          _ _ _ _ _ _ _ _ _ _ _
+          (l .inv .3)
+          (cell-turned
+          _ _ _ _ _ _ _ _ _ _
+          (v .value-at .ensures)
+          (sym (o .before .class-at .ensures) ∙ o .if1 .left)
+          (w .before .value .ensures)
+          (w .class .ensures)
+          (p .ensures)),
+    )
 
 same-length : tie.Need-same-length Inv-loop μ-loop
 same-length c = c .before .loop .inv .1
@@ -87,13 +140,19 @@ cells-spec =
     μ-loop
     loop-holds
     add-column
-    element-copy-out-cell
-    mul-cell
-    element-copy-out-cell-2
-    element-copy-out-cell-3
-    cell-requires
+    class-at-requires
     loop-less
     loop-again
+    element-copy-out-kind
+    mul-planned
+    element-copy-out-planned
+    element-copy-out-owner
+    value-at-requires
+    value-requires
+    class-requires
+    put-requires
+    loop-less-2
+    loop-again-2
     same-length
     same-length-2
     returns)
