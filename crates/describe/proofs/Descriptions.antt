@@ -28,7 +28,7 @@ over-entry d order e h a b = rw e (order-laws (d .labels) (d .levels) .entries h
 pub between-says : (low high n : ℕ) {m : ℕ} {b : Bool} → m ≡ n → b ≡ between low high m → b ≡ true → (low ≤ n) × (n ≤ high)
 between-says low high n e x t = of-true (between-r low high n) (ap (between low high) (sym e) ∙ sym x ∙ t)
 
--- ---- one relation
+-- ---- the ranges and the foreign key of a relation
 
 module _ (d : Description) (o : List (List Bool)) (r : ℕ) (D : Described d o r) where
   pub ranged-at : (q k : ℕ) → q ≡ 9 * r + 1 → {h l : ℕ} {b : Bool} → h ≡ getD (d .high) (q + k) 0 → l ≡ getD (d .low) (q + k) 0 → b ≡ entryOf o h l
@@ -64,7 +64,7 @@ module _ (d : Description) (o : List (List Bool)) (r : ℕ) (D : Described d o r
         pub foreign-some : t ≢ 0 → ltb t r ≡ foreignSound d r
         foreign-some w = sym (foreign-as ∙ rw (e, refers-is, lt-ltb 0 t (omega arith)))
 
--- ---- a relation, likewise
+-- ---- a relation
 
 module _ (d : Description) (o : List (List Bool)) (r : ℕ) (D : Described d o r) {m n : ℕ} {a : Bool} (x : m ≡ getD (d .columns) r 0) (y : n ≡ getD (d .rows) r 0) (z : a ≡ between 1 8 m) where
   columns-are : columnCount d r ≡ m
@@ -99,7 +99,7 @@ module _ (d : Description) (o : List (List Bool)) (r : ℕ) (D : Described d o r
 pub relation-at : (d : Description) (r : ℕ) {b : Bool} → b ≡ relationSound d (r + 1) → b ≡ relationSound d (suc r)
 relation-at d r e = rw (← (add-one r)) e
 
--- ---- the whole, likewise
+-- ---- the whole
 
 module _ (d : Description) {m : ℕ} {a : Bool} (x : m ≡ d .levels) (z : a ≡ between 1 16 m) where
   levels-are : between 1 16 (d .levels) ≡ a

@@ -1,5 +1,5 @@
--- What the tests of a description say: of relations and columns, and when it is sound. This is the one place where soundness is taken apart; a
--- test more of `sound` is a field of `Sound` and a line of `sound-r`.
+-- What the tests of a description say: of relations and columns, and when it is sound. What a sound description gives is said here alone: a test
+-- more of `sound` is a field of `Sound` and a clause of `sound-r`, which names it once more where it makes the record.
 -- Assumes nothing.
 use Prim.Native.Nat.{ℕ, zero, suc, _<_, _≤_, zero-le}
 use mathlib.Core.Bool.{Bool, true, _&&_}
@@ -63,42 +63,42 @@ pub record Sound (d : Description) : Type 0 where
 
 -- ---- the tests say it
 
--- A record against a conjunction of tests, a line for each test: what the test says, and where the record has it. K makes the record of what
--- the tests say.
-record Lines (S K : Type 0) (test : Bool) : Type 0 where
+-- A record S against a conjunction of tests, a clause for each test: what the test says, and where the record has it. K is the type of what
+-- makes the record of all that the tests say.
+record Clauses (S K : Type 0) (test : Bool) : Type 0 where
   make : test ≡ true → K → S
   passes : S → test ≡ true
 
-line : {S P K : Type 0} {a b : Bool} → Reflects P a → (S → P) → Lines S K b → Lines S (P → K) (a && b)
-line {a = a} {b = b} r f rest =
+clause : {S P K : Type 0} {a b : Bool} → Reflects P a → (S → P) → Clauses S K b → Clauses S (P → K) (a && b)
+clause {a = a} {b = b} r f rest =
     record {
       make = λ e k. rest .make (and-right a b e) (k (of-true r (and-left a b e)));
       passes = λ s. rw (is-true r (f s)) (rest .passes s);
     }
 
-last-line : {S P : Type 0} {b : Bool} → Reflects P b → (S → P) → Lines S (P → S) b
-last-line r f = record { make = λ e k. k (of-true r e); passes = λ s. is-true r (f s) }
+last-clause : {S P : Type 0} {b : Bool} → Reflects P b → (S → P) → Clauses S (P → S) b
+last-clause r f = record { make = λ e k. k (of-true r e); passes = λ s. is-true r (f s) }
 
-by-lines : {S K : Type 0} {b : Bool} → Lines S K b → K → Reflects S b
-by-lines {b = b} lines k = reflects-as (λ e. lines .make e k) (lines .passes) (bool-r b)
+by-clauses : {S K : Type 0} {b : Bool} → Clauses S K b → K → Reflects S b
+by-clauses {b = b} all k = reflects-as (λ e. all .make e k) (all .passes) (bool-r b)
 
 reference-r : (d : Description) (r : ℕ)
     → Reflects (Reference d r) (between 2 (columnCount d r) (foreignOf d r) && (ltb 0 (refersOf d r) && ltb (refersOf d r) r))
 reference-r d r =
-    by-lines
-    (line (between-r 2 (columnCount d r) (foreignOf d r)) (λ s. (s .after-key, s .column))
-    (line (ltb-r 0 (refersOf d r)) (λ s. s .some)
-    (last-line (ltb-r (refersOf d r) r) (λ s. s .lower))))
+    by-clauses
+    (clause (between-r 2 (columnCount d r) (foreignOf d r)) (λ s. (s .after-key, s .column))
+    (clause (ltb-r 0 (refersOf d r)) (λ s. s .some)
+    (last-clause (ltb-r (refersOf d r) r) (λ s. s .lower))))
     (λ column some lower. record { after-key = column .0; column = column .1; some = some; lower = lower })
 
 relation-sound-r : (d : Description) (r : ℕ) → Reflects (Relation d r) (relationSound d r)
 unfolding relationSound foreignSound
 relation-sound-r d r =
-    by-lines
-    (line (between-r 1 8 (columnCount d r)) (λ s. (s .keyed, s .narrow))
-    (line (between-r 1 64 (rowCount d r)) (λ s. (s .some, s .few))
-    (line (all-r (columnCount d r) (λ k. bool-r (over d (highOf d r (suc k)) (lowOf d r (suc k))))) (λ s. s .ranges)
-    (last-line (if-r (eqb-r (foreignOf d r) 0) (eqb-r (refersOf d r) 0) (reference-r d r)) (λ s. (s .unreferring, s .referring))))))
+    by-clauses
+    (clause (between-r 1 8 (columnCount d r)) (λ s. (s .keyed, s .narrow))
+    (clause (between-r 1 64 (rowCount d r)) (λ s. (s .some, s .few))
+    (clause (all-r (columnCount d r) (λ k. bool-r (over d (highOf d r (suc k)) (lowOf d r (suc k))))) (λ s. s .ranges)
+    (last-clause (if-r (eqb-r (foreignOf d r) 0) (eqb-r (refersOf d r) 0) (reference-r d r)) (λ s. (s .unreferring, s .referring))))))
     (λ columns rows ranges foreign. record {
       keyed = columns .0;
       narrow = columns .1;
@@ -116,12 +116,12 @@ distinct-r d = all-r (d .levels) (λ a. all-r a (λ b. not-r (eqb-r (labelOf d a
 pub sound-r : (d : Description) → Reflects (Sound d) (sound d)
 unfolding sound labelsSound
 sound-r d =
-    by-lines
-    (line (between-r 1 16 (d .levels)) (λ s. (s .some-levels, s .few-levels))
-    (line (and-r (all-r (d .levels) (λ l. leb-r (labelOf d l) 4095)) (distinct-r d)) (λ s. (s .labels, s .distinct))
-    (line (between-r 1 8 (d .relations)) (λ s. (s .some-relations, s .few-relations))
-    (line (all-r (d .relations) (λ r. relation-sound-r d (suc r))) (λ s. s .relations)
-    (last-line (leb-r (totalOf d) 8192) (λ s. s .total))))))
+    by-clauses
+    (clause (between-r 1 16 (d .levels)) (λ s. (s .some-levels, s .few-levels))
+    (clause (and-r (all-r (d .levels) (λ l. leb-r (labelOf d l) 4095)) (distinct-r d)) (λ s. (s .labels, s .distinct))
+    (clause (between-r 1 8 (d .relations)) (λ s. (s .some-relations, s .few-relations))
+    (clause (all-r (d .relations) (λ r. relation-sound-r d (suc r))) (λ s. s .relations)
+    (last-clause (leb-r (totalOf d) 8192) (λ s. s .total))))))
     (λ levels labels count relations total. record {
       some-levels = levels .0;
       few-levels = levels .1;
