@@ -5,7 +5,7 @@ use native.Mathlib.Omega.{arith}
 use lib.ListN.{length}
 use Rattle.model.specs.Description.{columnCount}
 use Rattle.model.specs.Buffers.{holding, stateOf}
-use Rattle.cells.specs.Changed.{changeLevel}
+use Rattle.cells.specs.Stored.{LevelBecomes}
 use Rattle.above.specs.Facts.{rowUnnamed, withRows}
 use Rattle.above.proofs.Turns.{rows-start, rows-end}
 use Rattle.above.proofs.Unnamed.{references-more}
@@ -16,9 +16,10 @@ abbrev Inv-loop : tie.InvT-loop
 Inv-loop values₀ classes description referrer place relation part plan subject level rows row₀ values row =
     (row ≤ rows)
     × (length values ≡ length values₀)
-    × (stateOf description (holding values classes)
-    ≡ changeLevel level (withRows row (columnCount description referrer) referrer (λ i. rowUnnamed description relation plan subject (stateOf description (holding values₀ classes)) level referrer (stateOf description (holding values₀ classes) level .rows referrer i)))
-    (stateOf description (holding values₀ classes)))
+    × LevelBecomes
+    description level
+    (withRows row (columnCount description referrer) referrer (λ i. rowUnnamed description relation plan subject (stateOf description (holding values₀ classes)) level referrer (stateOf description (holding values₀ classes) level .rows referrer i)))
+    values₀ classes values classes
 
 abbrev μ-loop : tie.MeasureT-loop
 μ-loop values₀ classes description referrer place relation part plan subject level rows row₀ values row = rows - row

@@ -9,7 +9,7 @@ use Rattle.bounded.proofs.Reflection.{is-true}
 use Rattle.model.specs.Buffers.{holding, stateOf}
 use Rattle.model.proofs.Sound.{relation-r}
 use Rattle.cells.proofs.Counts.{sound-says}
-use Rattle.cells.specs.Changed.{changeLevel}
+use Rattle.cells.specs.Stored.{LevelBecomes}
 use Rattle.above.specs.Facts.{withReferrers}
 use Rattle.above.proofs.Referred.{referrers-start, referrers-none, referrers-more, referrers-end}
 use Rattle.above.proofs.references.referrers.Statement.{statement}
@@ -20,8 +20,10 @@ Inv-loop values₀ classes description relation part plan subject level relation
     (0 < at)
     × (at ≤ relations + 1)
     × (length values ≡ length values₀)
-    × (stateOf description (holding values classes)
-    ≡ changeLevel level (withReferrers at description relation plan subject (stateOf description (holding values₀ classes)) level) (stateOf description (holding values₀ classes)))
+    × LevelBecomes
+    description level
+    (withReferrers at description relation plan subject (stateOf description (holding values₀ classes)) level)
+    values₀ classes values classes
 
 abbrev μ-loop : tie.MeasureT-loop
 μ-loop values₀ classes description relation part plan subject level relations at₀ values at = relations + 1 - at
