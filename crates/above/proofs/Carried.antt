@@ -77,16 +77,16 @@ module _ (d : Description) (c r : ℕ) (P : Plan) where
 -- ---- a level above
 
 -- a chosen key stands at its place
-record ChosenBy (n : ℕ) (chosen : List Bool) (B : ℕ → Row) (v : ℕ) : Type 0 where
+record ChosenKey (n : ℕ) (chosen : List Bool) (B : ℕ → Row) (v : ℕ) : Type 0 where
   row : place n B v < n
-  chosen : getD chosen (place n B v) false ≡ true
+  set : getD chosen (place n B v) false ≡ true
   key : B (place n B v) 1 .value ≡ v
 
-chosen-at : (n : ℕ) (chosen : List Bool) (B : ℕ → Row) (v : ℕ) → chosenAt n chosen B v ≡ true → ChosenBy n chosen B v
+chosen-at : (n : ℕ) (chosen : List Bool) (B : ℕ → Row) (v : ℕ) → chosenAt n chosen B v ≡ true → ChosenKey n chosen B v
 unfolding chosenAt place
 chosen-at n chosen B v e =
     let both = of-true (and-r (ltb-r (place n B v) n) (bool-r (getD chosen (place n B v) false))) e in
-    record { row = both .0; chosen = both .1; key = eqb-true _ _ (first-holds n (λ i. eqb (B i 1 .value) v) (both .0)) }
+    record { row = both .0; set = both .1; key = eqb-true _ _ (first-holds n (λ i. eqb (B i 1 .value) v) (both .0)) }
 
 both : (g : Bool) (a b c : ℕ) → a ≡ b → (g && (eqb a c && eqb b c)) ≡ (g && eqb b c)
 both g a b c q = rw q (cases (eqb b c) (λ t. rw t) (λ t. rw t))
@@ -121,7 +121,7 @@ module _ (d : Description) (order : List (List Bool)) (r c : ℕ) (P : Plan) (S 
   not-self = unlike d (W .sound-is) r (relation .keyed)
 
   chosen-some : (v : ℕ) → chosen v ≡ true → v ≢ 0
-  chosen-some v e z = let m = chosen-at (rowCount d r) (P .chosen) (S c .rows r) v e in Q .real (place (rowCount d r) (S c .rows r) v) (m .row) (m .chosen) (m .key ∙ z)
+  chosen-some v e z = let m = chosen-at (rowCount d r) (P .chosen) (S c .rows r) v e in Q .real (place (rowCount d r) (S c .rows r) v) (m .row) (m .set) (m .key ∙ z)
 
   module _ (l : ℕ) where
     gone-is : (v s : ℕ) → goneAt d T c E l v s ≡ (eqb s r && goneBy d r P c S l v)
@@ -171,7 +171,7 @@ module _ (d : Description) (order : List (List Bool)) (r c : ℕ) (P : Plan) (S 
           go (nowhere f _) = absurd (f i h refl)
 
       module _ (m : chosen v ≡ true) where
-        known : ChosenBy (rowCount d r) (P .chosen) (S c .rows r) v
+        known : ChosenKey (rowCount d r) (P .chosen) (S c .rows r) v
         known = chosen-at (rowCount d r) (P .chosen) (S c .rows r) v m
 
         there-own : T r c v ≡ own

@@ -19,6 +19,7 @@ use Rattle.model.specs.Tables.{Row, State, rowsOf, cell, nocell, ownNull, used,
 use Rattle.model.specs.Buffers.{Buffers, holding, inside, stateOf}
 use Rattle.model.specs.Listed.{whole, each, listed, columnsOnce}
 use Rattle.model.specs.Effect.{Rows, Effect, lowestEmpty, hasRoom}
+use Rattle.model.specs.Numbers.{faultNumber}
 use Rattle.model.specs.Insert.{keyListed, insertFormed, insertTests, newRow, inserted}
 use Rattle.model.specs.Run.{firstFault, left}
 use Rattle.model.proofs.Sound.{between-r, column-r}
@@ -28,7 +29,7 @@ use Rattle.cells.specs.declared.layout.Part.{Part}
 use Rattle.cells.proofs.Cells.{state-path}
 use Rattle.asked.specs.declared.pairs.Rule.the-variants as Rules
 use Rattle.asked.specs.Facts.{ruleOf}
-use Rattle.theory.proofs.Accepted.{passed}
+use Rattle.theory.proofs.Tests.{pass}
 use Rattle.theory.proofs.Listed.{each-listed}
 use Rattle.theory.proofs.Seen.{seen-at, seen-own}
 use Rattle.change.specs.Facts.{Standing, Filled, Inserts, does, sight, valueListed}
@@ -181,8 +182,8 @@ module _ {d : Description} {order : List (List Bool)} {r c : ℕ} {p : Part} {vs
 
     -- where no test fails there is a row
     pub room : firstFault (insertTests d c r list seeing) ≡ none → row < p .rows
-    unfolding insertTests
-    room n = ltb-true _ _ (sym room-test ∙ passed _ _ (passed _ _ (passed _ _ (passed _ _ n .1) .1) .1) .0)
+    unfolding insertTests faultNumber
+    room n = ltb-true _ _ (sym room-test ∙ pass _ n 13)
 
     pub insert-done : firstFault (insertTests d c r list seeing) ≡ none → {news owners us ds : List ℕ} → Filled (p .columns) (valueListed list) news
         → Filled (p .columns) (λ k. newRow d c r list k .class) owners

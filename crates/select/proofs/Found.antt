@@ -80,9 +80,9 @@ module _ (d : Description) (r : ℕ) (conditions : List ℕ) (S : State) (l : �
 
   module _ {chosen : List Bool} (i : ℕ) (m : ChosenBy (rowCount d r) (metAt d conditions (S l .rows r)) chosen) (small : i < n) (room : Room (foundAt d r conditions S l) a (length s) (length o))
       (w : Wrote (concatBelow i (rowFound d r conditions S l)) a b s o s′ o′) where
-    chosen : rowShown d r (S l .rows r) l (getD chosen i false) i ≡ rowFound d r conditions S l i
+    shown : rowShown d r (S l .rows r) l (getD chosen i false) i ≡ rowFound d r conditions S l i
     unfolding rowFound
-    chosen = rw (m .right i (omega arith))
+    shown = rw (m .right i (omega arith))
 
     below : i < rowCount d r
     below = omega arith
@@ -91,11 +91,11 @@ module _ (d : Description) (r : ℕ) (conditions : List ℕ) (S : State) (l : �
     whole = rw found-rows at room
 
     pub show-room : length s′ ≡ length s → length o′ ≡ length o → Room (rowShown d r (S l .rows r) l (getD chosen i false) i) b (length s′) (length o′)
-    show-room f g = rw chosen (room-at (rowFound d r conditions S l) (rowCount d r) i below whole w f g)
+    show-room f g = rw shown (room-at (rowFound d r conditions S l) (rowCount d r) i below whole w f g)
 
     pub show-next : {c : At} {s″ o″ : List ℕ} → Wrote (rowShown d r (S l .rows r) l (getD chosen i false) i) b c s′ o′ s″ o″
         → Wrote (concatBelow (i + 1) (rowFound d r conditions S l)) a c s o s″ o″
-    show-next q = wrote-next (rowFound d r conditions S l) (rowCount d r) i below whole w (rw chosen at q)
+    show-next q = wrote-next (rowFound d r conditions S l) (rowCount d r) i below whole w (rw shown at q)
 
 -- ---- level by level
 

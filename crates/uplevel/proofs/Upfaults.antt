@@ -16,6 +16,7 @@ use Rattle.model.specs.declared.Fault.the-variants as Faults
 use Rattle.model.specs.declared.Answer.{Answer}
 use Rattle.model.specs.declared.Answer.the-variants as Answers
 use Rattle.model.specs.Description.{over, inRange, rowCount}
+use Rattle.model.specs.Numbers.{faultNumber}
 use Rattle.model.specs.Tables.{Cell, State, Tables, cell, same, used, rowsOf, seen, at}
 use Rattle.model.specs.Buffers.{holding, stateOf}
 use Rattle.model.specs.Listed.{each}
@@ -25,7 +26,7 @@ use Rattle.model.specs.Run.{firstFault}
 use Rattle.cells.specs.Changed.{keyPlace, entityPlace}
 use Rattle.asked.specs.declared.pairs.Rule.the-variants as Rules
 use Rattle.asked.specs.Facts.{ruleOf}
-use Rattle.theory.proofs.Accepted.{passed}
+use Rattle.theory.proofs.Tests.{pass}
 use Rattle.theory.proofs.Seen.{seen-at, seen-own}
 use Rattle.change.specs.declared.tests.Test.the-variants as Tests
 use Rattle.change.specs.Facts.{Answered, refuses, does, sight, Uplevels}
@@ -133,8 +134,8 @@ module _ (d : Description) (vs cs : List ℕ) (c r key class : ℕ) (list : List
 
   -- where no test fails there is a place
   pub room : firstFault tests ≡ none → spotOf d r here (S c .rows) < rowCount d r
-  unfolding laterTests
-  room n = ltb-true _ _ (sym full-test ∙ passed _ _ (passed _ _ (passed _ _ (passed _ _ n .1) .1) .1) .0)
+  unfolding laterTests faultNumber
+  room n = ltb-true _ _ (sym full-test ∙ pass _ n 13)
 
 -- ---- one test before others
 
