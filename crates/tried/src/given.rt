@@ -19,6 +19,12 @@ pub fn size(numbers: &[u32], place: usize) -> usize {
     entry(numbers, place) as usize
 }
 
+pub fn least(a: usize, b: usize) -> usize
+    ensures { λ r. ⌜ (r ≤ a) × (r ≤ b) ⌝ }
+{
+    if a < b { a } else { b }
+}
+
 // The labels, which stand behind the count of levels.
 fn labels(given: &[u32]) -> [u16; 16] {
     let mut labels = [0; 16];

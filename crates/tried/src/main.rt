@@ -16,6 +16,23 @@ mod shown;
 mod tables;
 mod timed;
 
+// The text of a line that is to be printed.
+fn say(line: &[u8]) {
+    if line.len() < 2 {
+        return;
+    }
+    let end = line.len() - 1;
+    match line[0] {
+        b'>' => {
+            io::write_all(1, &line[1..]);
+        }
+        b'=' => {
+            io::write_all(1, &line[1..end]);
+        }
+        _ => {}
+    }
+}
+
 // What a line asks of tables that are as long as was given.
 fn act(first: u8, given: &[u32], values: &mut [u32], classes: &mut [u8], numbers: &[u32]) {
     match first {
@@ -27,41 +44,15 @@ fn act(first: u8, given: &[u32], values: &mut [u32], classes: &mut [u8], numbers
     }
 }
 
-// What any line asks.
-fn turn(line: &[u8], given: &mut [u32], values: &mut [u32], classes: &mut [u8]) {
-    if line.len() < 2 {
+// What a line with this first byte and these numbers asks.
+fn turn(first: u8, given: &mut [u32], values: &mut [u32], classes: &mut [u8], numbers: &[u32]) {
+    if first == b'g' {
+        given::store(given, numbers);
         return;
     }
-    let first = line[0];
-    let end = line.len() - 1;
-    let mut numbers = [0u32; 600];
-    let count = read::numbers(line, &mut numbers);
-    match first {
-        b'>' => {
-            io::write_all(1, &line[1..]);
-        }
-        b'=' => {
-            io::write_all(1, &line[1..end]);
-        }
-        b'g' => given::store(given, &numbers[..count]),
-        _ => {
-            let n = given::size(given, 216);
-            let m = given::size(given, 217);
-            if values.len() < n {
-                return;
-            }
-            if classes.len() < m {
-                return;
-            }
-            act(
-                first,
-                given,
-                &mut values[..n],
-                &mut classes[..m],
-                &numbers[..count],
-            );
-        }
-    }
+    let n = given::least(given::size(given, 216), values.len());
+    let m = given::least(given::size(given, 217), classes.len());
+    act(first, given, &mut values[..n], &mut classes[..m], numbers);
 }
 
 // Line after line.
@@ -72,7 +63,16 @@ fn lines(bytes: &[u8]) {
     let mut at = 0;
     while at < bytes.len() {
         let end = read::end(bytes, at);
-        turn(&bytes[at..end], &mut given, &mut values, &mut classes);
+        let mut numbers = [0u32; 600];
+        let count = read::numbers(&bytes[at..end], &mut numbers);
+        say(&bytes[at..end]);
+        turn(
+            bytes[at],
+            &mut given,
+            &mut values,
+            &mut classes,
+            &numbers[..count],
+        );
         at = end;
     }
 }

@@ -1,13 +1,12 @@
 // What is answered, printed with every cell of the four buffers before and after: `.` for (0, 255), and `-` where a buffer has no such cell.
 use crate::given::described;
 use crate::given::entry;
+use crate::given::least;
 use crate::given::size;
 use crate::given::word;
 use model::Answer;
 use model::Statement;
 use model::What;
-ghost use Prim.Native.Nat.{_≤_};
-ghost use lib.ListN.{length};
 
 // A number, or the first that no cell can hold, for none.
 fn print(number: u64) {
@@ -53,7 +52,7 @@ fn longer(a: usize, b: usize) -> usize {
     if a < b { b } else { a }
 }
 
-fn show(values: &[u32], classes: &[u8]) {
+fn cells(values: &[u32], classes: &[u8]) {
     let length = longer(values.len(), classes.len());
     let mut at = 0;
     while at < length {
@@ -61,6 +60,12 @@ fn show(values: &[u32], classes: &[u8]) {
         at += 1;
     }
     io::write_all(1, b"\n");
+}
+
+// The tables and what is shown, a line each.
+fn show(values: &[u32], classes: &[u8], shown: &[u32], owners: &[u8]) {
+    cells(values, classes);
+    cells(shown, owners);
 }
 
 fn tell(answer: Answer) {
@@ -95,16 +100,21 @@ pub fn stated(numbers: &[u32]) -> Statement {
     }
 }
 
-// Where the conditions start, behind the list.
-pub fn middle(numbers: &[u32]) -> usize
-    requires { ⌜ 6 ≤ length (now numbers) ⌝ }
-    ensures { λ r. ⌜ (6 ≤ r) × (r ≤ length (now (numbers .entry))) ⌝ }
-{
-    let length = size(numbers, 5);
-    if numbers.len() - 6 < length {
-        return 6;
+// Its list, which stands behind its length, and its conditions, which stand behind the list.
+pub fn list(numbers: &[u32]) -> &[u32] {
+    if numbers.len() < 6 {
+        return &numbers[..0];
     }
-    6 + length
+    let end = 6 + least(size(numbers, 5), numbers.len() - 6);
+    &numbers[6..end]
+}
+
+pub fn conditions(numbers: &[u32]) -> &[u32] {
+    if numbers.len() < 6 {
+        return &numbers[..0];
+    }
+    let end = 6 + least(size(numbers, 5), numbers.len() - 6);
+    &numbers[end..]
 }
 
 fn call(
@@ -117,8 +127,7 @@ fn call(
     list: &[u32],
     conditions: &[u32],
 ) {
-    show(values, classes);
-    show(shown, owners);
+    show(values, classes, shown, owners);
     let answer = register::run(
         described(given),
         values,
@@ -130,26 +139,15 @@ fn call(
         owners,
     );
     tell(answer);
-    show(values, classes);
-    show(shown, owners);
+    show(values, classes, shown, owners);
 }
 
 // The statement that a line's numbers are, with output buffers of which every cell is 9.
 pub fn statement(given: &[u32], values: &mut [u32], classes: &mut [u8], numbers: &[u32]) {
     let mut shown = [9u32; 16];
     let mut owners = [9u8; 16];
-    let n = size(given, 218);
-    if 16 < n {
-        return;
-    }
-    let m = size(given, 219);
-    if 16 < m {
-        return;
-    }
-    if numbers.len() < 6 {
-        return;
-    }
-    let middle = middle(numbers);
+    let n = least(size(given, 218), 16);
+    let m = least(size(given, 219), 16);
     call(
         given,
         values,
@@ -157,7 +155,7 @@ pub fn statement(given: &[u32], values: &mut [u32], classes: &mut [u8], numbers:
         &mut shown[..n],
         &mut owners[..m],
         stated(numbers),
-        &numbers[6..middle],
-        &numbers[middle..],
+        list(numbers),
+        conditions(numbers),
     );
 }

@@ -25,39 +25,59 @@ pub fn copy_classes(from: &[u8], to: &mut [u8]) {
     }
 }
 
-// Numbers as the classes that they are.
-fn set_classes(from: &[u32], to: &mut [u8]) {
+// Cells to be changed are three numbers each: place, value, class. Where the cell of a place stands among them; none behind the end.
+fn found(cells: &[u32], place: usize) -> usize {
     let mut i = 0;
-    while i < to.len() {
-        to[i] = (entry(from, i) % 256) as u8;
+    while i < cells.len() {
+        if size(cells, i) == place {
+            return i;
+        }
+        i += 3;
+    }
+    i
+}
+
+// A cell's value, and its class: changed, or as given from place 1,000 or 10,000 on.
+fn value(given: &[u32], cells: &[u32], place: usize) -> u32 {
+    let at = found(cells, place);
+    if at < cells.len() {
+        return entry(cells, at + 1);
+    }
+    if 9000 <= place {
+        return 0;
+    }
+    entry(given, 1000 + place)
+}
+
+fn class(given: &[u32], cells: &[u32], place: usize) -> u8 {
+    let at = found(cells, place);
+    if at < cells.len() {
+        return (entry(cells, at + 2) % 256) as u8;
+    }
+    if 9000 <= place {
+        return 0;
+    }
+    (entry(given, 10000 + place) % 256) as u8
+}
+
+fn set_values(given: &[u32], cells: &[u32], values: &mut [u32]) {
+    let mut i = 0;
+    while i < values.len() {
+        values[i] = value(given, cells, i);
         i += 1;
     }
 }
 
-fn put(values: &mut [u32], classes: &mut [u8], at: usize, value: u32, class: u32) {
-    if at < values.len() {
-        if at < classes.len() {
-            values[at] = value;
-            classes[at] = (class % 256) as u8;
-        }
-    }
-}
-
-// Cells to be changed, each as its place, its value and its class.
-fn change(values: &mut [u32], classes: &mut [u8], cells: &[u32]) {
-    let mut i = 2;
-    while i < cells.len() {
-        put(values, classes, size(cells, i - 2), cells[i - 1], cells[i]);
-        i += 3;
+fn set_classes(given: &[u32], cells: &[u32], classes: &mut [u8]) {
+    let mut i = 0;
+    while i < classes.len() {
+        classes[i] = class(given, cells, i);
+        i += 1;
     }
 }
 
 // The tables as they are given, but for some cells.
 pub fn set(given: &[u32], values: &mut [u32], classes: &mut [u8], cells: &[u32]) {
-    if given.len() < 10000 {
-        return;
-    }
-    copy_values(&given[1000..], values);
-    set_classes(&given[10000..], classes);
-    change(values, classes, cells);
+    set_values(given, cells, values);
+    set_classes(given, cells, classes);
 }

@@ -2,7 +2,9 @@
 // times the count of a statement that was done.
 use crate::given::described;
 use crate::given::entry;
-use crate::shown::middle;
+use crate::given::least;
+use crate::shown::conditions;
+use crate::shown::list;
 use crate::shown::stated;
 use crate::tables::copy_classes;
 use crate::tables::copy_values;
@@ -101,14 +103,8 @@ fn lent(
     let mut space = [0u8; 8200];
     let mut shown = [0u32; 8192];
     let mut owners = [0u8; 9216];
-    let n = values.len();
-    if 8200 < n {
-        return 0;
-    }
-    let m = classes.len();
-    if 8200 < m {
-        return 0;
-    }
+    let n = least(values.len(), 8200);
+    let m = least(classes.len(), 8200);
     repeated(
         description,
         values,
@@ -129,17 +125,13 @@ fn answered(given: &[u32], values: &[u32], classes: &[u8], numbers: &[u32], time
     if entry(numbers, 0) == 0 {
         return judged(described(given), values, classes, times);
     }
-    if numbers.len() < 6 {
-        return 0;
-    }
-    let middle = middle(numbers);
     lent(
         described(given),
         values,
         classes,
         stated(numbers),
-        &numbers[6..middle],
-        &numbers[middle..],
+        list(numbers),
+        conditions(numbers),
         times,
     )
 }

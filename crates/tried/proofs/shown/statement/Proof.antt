@@ -1,99 +1,70 @@
 use native.Mathlib.Omega.{arith}
-use borrow.Author.Needs.{needs}
 use lib.ListN.{length-take, length-replicate}
 use borrow.Author.Needs.{needs}
 use Rattle.tried.proofs.shown.statement.Statement.{statement}
 use Rattle.tried.proofs.shown.statement.Tie as tie
 
 size-requires : tie.Need-size-requires
-size-requires c κs = search needs
+size-requires c κs = tt
 
-returns : tie.Need-returns
-returns c = search needs
+least-requires : tie.Need-least-requires
+least-requires c κs = tt
 
 size-requires-2 : tie.Need-size-requires-2
-size-requires-2 c κs = search needs
+size-requires-2 c κs = tt
 
-returns-2 : tie.Need-returns-2
-returns-2 c = search needs
-
-returns-3 : tie.Need-returns-3
-returns-3 c = search needs
-
-middle-requires : tie.Need-middle-requires
-middle-requires c κs = search needs
+least-requires-2 : tie.Need-least-requires-2
+least-requires-2 c κs = tt
 
 array-borrow-prefix-shown : tie.Need-array-borrow-prefix-shown
-array-borrow-prefix-shown c = search needs
+array-borrow-prefix-shown c = omega arith
 
 slice-aggregate-call : tie.Need-slice-aggregate-call
 slice-aggregate-call c = simp (length-take, length-replicate) (omega arith)
 
 array-borrow-prefix-owners : tie.Need-array-borrow-prefix-owners
-array-borrow-prefix-owners c = search needs
+array-borrow-prefix-owners c = omega arith
 
 slice-aggregate-call-2 : tie.Need-slice-aggregate-call-2
 slice-aggregate-call-2 c = simp (length-take, length-replicate) (omega arith)
 
 stated-requires : tie.Need-stated-requires
-stated-requires c κs = search needs
+stated-requires c κs = tt
 
-sub-call : tie.Need-sub-call
-sub-call c = search needs
+list-requires : tie.Need-list-requires
+list-requires c κs = tt
 
-part-call-start : tie.Need-part-call-start
-part-call-start c = search needs
-
-part-call-end : tie.Need-part-call-end
-part-call-end c = search needs
-
-mul-call : tie.Need-mul-call
-mul-call c = search needs
-
-sub-call-2 : tie.Need-sub-call-2
-sub-call-2 c = search needs
-
-part-call-start-2 : tie.Need-part-call-start-2
-part-call-start-2 c = search needs
-
-part-call-end-2 : tie.Need-part-call-end-2
-part-call-end-2 c = search needs
+conditions-requires : tie.Need-conditions-requires
+conditions-requires c κs = tt
 
 call-requires : tie.Need-call-requires
-call-requires c κs = search needs
+call-requires c κs = tt
 
 same-length : tie.Need-same-length
-same-length c = search needs
+same-length c = omega arith
 
 same-length-2 : tie.Need-same-length-2
-same-length-2 c = search needs
+same-length-2 c = omega arith
 
-returns-4 : tie.Need-returns-4
-returns-4 c = search needs
+returns : tie.Need-returns
+returns c = tt
 
 pub statement-spec : {M : Type 1} → statement M
 statement-spec =
     tie.close
     (tie.spec
     size-requires
-    returns
+    least-requires
     size-requires-2
-    returns-2
-    returns-3
-    middle-requires
+    least-requires-2
     array-borrow-prefix-shown
     slice-aggregate-call
     array-borrow-prefix-owners
     slice-aggregate-call-2
     stated-requires
-    sub-call
-    part-call-start
-    part-call-end
-    mul-call
-    sub-call-2
-    part-call-start-2
-    part-call-end-2
+    list-requires
+    conditions-requires
     call-requires
     same-length
     same-length-2
-    returns-4)
+    returns)

@@ -1,28 +1,24 @@
 use Prim.Native.Nat.{_≤_, _-_}
 use mathlib.Core.Path.{_≡_, refl}
 use native.Mathlib.Omega.{arith}
-use borrow.Author.Needs.{needs}
 use lib.ListN.{length, length-set}
 use Rattle.tried.proofs.tables.set_classes.Statement.{statement}
 use Rattle.tried.proofs.tables.set_classes.Tie as tie
 
 abbrev Inv-loop : tie.InvT-loop
-Inv-loop from to₀ i₀ to i = (length to ≡ length to₀) × (i ≤ length to₀)
+Inv-loop given cells classes₀ i₀ classes i = (length classes ≡ length classes₀) × (i ≤ length classes₀)
 
 abbrev μ-loop : tie.MeasureT-loop
-μ-loop from to₀ i₀ to i = length to₀ - i
+μ-loop given cells classes₀ i₀ classes i = length classes₀ - i
 
 loop-holds : tie.Need-loop-holds Inv-loop μ-loop
 loop-holds c = (refl, omega arith)
 
-entry-requires : tie.Need-entry-requires Inv-loop μ-loop
-entry-requires c κs = search needs
+class-requires : tie.Need-class-requires Inv-loop μ-loop
+class-requires c κs = tt
 
-cast-to : tie.Need-cast-to Inv-loop μ-loop
-cast-to c = omega arith
-
-slice-write-to : tie.Need-slice-write-to Inv-loop μ-loop
-slice-write-to c = omega arith
+slice-write-classes : tie.Need-slice-write-classes Inv-loop μ-loop
+slice-write-classes c = omega arith
 
 add-i : tie.Need-add-i Inv-loop μ-loop
 add-i c = omega arith
@@ -37,7 +33,7 @@ same-length : tie.Need-same-length Inv-loop μ-loop
 same-length c = omega arith
 
 returns : tie.Need-returns Inv-loop μ-loop
-returns c = omega arith
+returns c = tt
 
 pub set-classes-spec : {M : Type 1} → statement M
 set-classes-spec =
@@ -46,9 +42,8 @@ set-classes-spec =
     Inv-loop
     μ-loop
     loop-holds
-    entry-requires
-    cast-to
-    slice-write-to
+    class-requires
+    slice-write-classes
     add-i
     loop-less
     loop-again
