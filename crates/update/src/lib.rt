@@ -167,7 +167,8 @@ fn write(
 )
     requires { ⌜ Standing description order relation level part (now values) (now classes) × OnlyUsed description relation level (now values) (now classes) chosen ⌝ }
     requires { ⌜ Listing (columnCount description relation) (now list) × (lists (now list) 1 ≡ false) ⌝ }
-    ensures { λ _. ⌜ Leaves description level (setChosen description level relation (now (list .entry)) chosen) (now (values .entry)) (now (classes .entry)) (now (values .exit)) (now (classes .exit)) ⌝ }
+    ensures { λ _. ⌜ Leaves description level (setChosen description level relation (now (list .entry)) chosen)
+        (now (values .entry)) (now (classes .entry)) (now (values .exit)) (now (classes .exit)) ⌝ }
 {
     let kinds = kinds(list);
     let news = news(list);
