@@ -1,3 +1,4 @@
+-- The two ends of the range, one after the other.
 use borrow.Author.Tests.{le-leb, lt-leb}
 use Rattle.model.specs.Description.{between}
 use Rattle.records.proofs.kinds.between.Statement.{statement}

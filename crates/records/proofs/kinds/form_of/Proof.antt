@@ -1,3 +1,4 @@
+-- Each arm is its line of the table.
 use borrow.Author.Needs.{needs}
 use borrow.Author.Tests.{ne-eqb}
 use Rattle.records.specs.Kinds.{formOf}

@@ -1,3 +1,4 @@
+-- The kinds are a range.
 use borrow.Author.Needs.{needs}
 use Rattle.records.specs.Kinds.{isKind}
 use Rattle.records.proofs.kinds.is_kind.Statement.{statement}

@@ -1,3 +1,4 @@
+-- By what an entry is: a list that ends in the record has at most 512 numbers.
 use borrow.Author.Needs.{needs}
 use Prim.Native.Nat.{_≤_}
 use mathlib.Core.Path.{refl}

@@ -1,3 +1,4 @@
+-- Whole, of a kind, of the length asked.
 use borrow.Author.Needs.{needs}
 use borrow.Author.Tests.{not-true, not-false}
 use Rattle.records.specs.Statements.{isStatement}

@@ -1,3 +1,4 @@
+-- The two lists stand one behind the other.
 use borrow.Author.Needs.{needs}
 use Prim.Native.Nat.{_≤_}
 use native.Mathlib.Omega.{arith}

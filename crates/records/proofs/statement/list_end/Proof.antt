@@ -1,3 +1,4 @@
+-- By what an entry is.
 use borrow.Author.Needs.{needs}
 use native.Mathlib.Omega.{arith}
 use Rattle.records.specs.Statements.{endOf}

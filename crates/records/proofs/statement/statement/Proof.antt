@@ -1,3 +1,4 @@
+-- A record that is no statement, or one whose two lists are filled, the second from where the first ends.
 use borrow.Author.Needs.{needs}
 use mathlib.Core.Path.{sym, _∙_}
 use native.Mathlib.Omega.{arith}

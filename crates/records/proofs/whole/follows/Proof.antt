@@ -1,3 +1,4 @@
+-- By kind.
 use borrow.Author.Needs.{needs}
 use borrow.Author.Tests.{eq-eqb, ne-eqb, not-true, not-false}
 use Rattle.records.specs.Record.{follows}
