@@ -4,22 +4,22 @@ use model::Description;
 ghost use Prim.Native.Nat.{_≤_};
 
 // The number at a place; 0 behind the end.
-pub fn entry(numbers: &[u32], place: usize) -> u32 {
+pub(crate) fn entry(numbers: &[u32], place: usize) -> u32 {
     if numbers.len() <= place {
         return 0;
     }
     numbers[place]
 }
 
-pub fn word(numbers: &[u32], place: usize) -> u16 {
+pub(crate) fn word(numbers: &[u32], place: usize) -> u16 {
     (entry(numbers, place) % 65536) as u16
 }
 
-pub fn size(numbers: &[u32], place: usize) -> usize {
+pub(crate) fn size(numbers: &[u32], place: usize) -> usize {
     entry(numbers, place) as usize
 }
 
-pub fn least(a: usize, b: usize) -> usize
+pub(crate) fn least(a: usize, b: usize) -> usize
     ensures { λ r. ⌜ (r ≤ a) × (r ≤ b) ⌝ }
 {
     if a < b { a } else { b }
@@ -56,7 +56,7 @@ fn ranges(given: &[u32], from: usize) -> [u16; 81]
     ranges
 }
 
-pub fn described(given: &[u32]) -> Description {
+pub(crate) fn described(given: &[u32]) -> Description {
     Description {
         levels: word(given, 0),
         labels: labels(given),
@@ -84,7 +84,7 @@ fn fill(from: &[u32], to: &mut [u32]) {
 }
 
 // A place, how many numbers are stored from there on, and the numbers.
-pub fn store(given: &mut [u32], numbers: &[u32]) {
+pub(crate) fn store(given: &mut [u32], numbers: &[u32]) {
     if numbers.len() < 2 {
         return;
     }

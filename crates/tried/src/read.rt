@@ -3,7 +3,7 @@ ghost use Prim.Native.Nat.{_≤_, _<_};
 ghost use lib.ListN.{length};
 
 // The place behind the line that starts at a place.
-pub fn end(bytes: &[u8], from: usize) -> usize
+pub(crate) fn end(bytes: &[u8], from: usize) -> usize
     requires { ⌜ from < length (now bytes) ⌝ }
     ensures { λ r. ⌜ (from < r) × (r ≤ length (now (bytes .entry))) ⌝ }
 {
@@ -52,7 +52,7 @@ fn ended(byte: u8, next: u8) -> usize
 }
 
 // The numbers of a line go into a list of zeros; how many there are.
-pub fn numbers(line: &[u8], list: &mut [u32]) -> usize
+pub(crate) fn numbers(line: &[u8], list: &mut [u32]) -> usize
     ensures { λ r. ⌜ r ≤ length (now (list .entry)) ⌝ }
 {
     let mut count = 0;

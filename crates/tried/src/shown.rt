@@ -76,7 +76,7 @@ fn tell(answer: Answer) {
 }
 
 // The verdict on the tables.
-pub fn judge(given: &[u32], values: &[u32], classes: &[u8]) {
+pub(crate) fn judge(given: &[u32], values: &[u32], classes: &[u8]) {
     io::write_all(1, b" ");
     print(numbers::verdict(register::judge(described(given), values, classes)) as u64);
 }
@@ -92,7 +92,7 @@ fn what(kind: u16, key: u32, class: u16) -> What {
 }
 
 // What a line's numbers ask: kind, level, relation, key and key class.
-pub fn stated(numbers: &[u32]) -> Statement {
+pub(crate) fn stated(numbers: &[u32]) -> Statement {
     Statement {
         level: word(numbers, 1),
         relation: word(numbers, 2),
@@ -101,7 +101,7 @@ pub fn stated(numbers: &[u32]) -> Statement {
 }
 
 // Its list, which stands behind its length, and its conditions, which stand behind the list.
-pub fn list(numbers: &[u32]) -> &[u32] {
+pub(crate) fn list(numbers: &[u32]) -> &[u32] {
     if numbers.len() < 6 {
         return &numbers[..0];
     }
@@ -109,7 +109,7 @@ pub fn list(numbers: &[u32]) -> &[u32] {
     &numbers[6..end]
 }
 
-pub fn conditions(numbers: &[u32]) -> &[u32] {
+pub(crate) fn conditions(numbers: &[u32]) -> &[u32] {
     if numbers.len() < 6 {
         return &numbers[..0];
     }
@@ -143,7 +143,7 @@ fn call(
 }
 
 // The statement that a line's numbers are, with output buffers of which every cell is 9.
-pub fn statement(given: &[u32], values: &mut [u32], classes: &mut [u8], numbers: &[u32]) {
+pub(crate) fn statement(given: &[u32], values: &mut [u32], classes: &mut [u8], numbers: &[u32]) {
     let mut shown = [9u32; 16];
     let mut owners = [9u8; 16];
     let n = least(size(given, 218), 16);

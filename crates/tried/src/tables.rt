@@ -3,7 +3,7 @@ use crate::given::entry;
 use crate::given::size;
 
 // The values that `to` has room for are stored there.
-pub fn copy_values(from: &[u32], to: &mut [u32]) {
+pub(crate) fn copy_values(from: &[u32], to: &mut [u32]) {
     let mut i = 0;
     while i < to.len() {
         if from.len() <= i {
@@ -14,7 +14,7 @@ pub fn copy_values(from: &[u32], to: &mut [u32]) {
     }
 }
 
-pub fn copy_classes(from: &[u8], to: &mut [u8]) {
+pub(crate) fn copy_classes(from: &[u8], to: &mut [u8]) {
     let mut i = 0;
     while i < to.len() {
         if from.len() <= i {
@@ -77,7 +77,7 @@ fn set_classes(given: &[u32], cells: &[u32], classes: &mut [u8]) {
 }
 
 // The tables as they are given, but for some cells.
-pub fn set(given: &[u32], values: &mut [u32], classes: &mut [u8], cells: &[u32]) {
+pub(crate) fn set(given: &[u32], values: &mut [u32], classes: &mut [u8], cells: &[u32]) {
     set_values(given, cells, values);
     set_classes(given, cells, classes);
 }

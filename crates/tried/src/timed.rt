@@ -136,7 +136,7 @@ fn answered(given: &[u32], values: &[u32], classes: &[u8], numbers: &[u32], time
     )
 }
 
-pub fn repeat(given: &[u32], values: &[u32], classes: &[u8], numbers: &[u32]) {
+pub(crate) fn repeat(given: &[u32], values: &[u32], classes: &[u8], numbers: &[u32]) {
     if numbers.len() < 1 {
         return;
     }
