@@ -8,14 +8,13 @@ use native.Mathlib.Omega.{arith}
 use lib.Dec.{eqb}
 use lib.ListN.{length, getD, set}
 use lib.Seq.{getD-set-same, getD-set-other}
-use borrow.Author.Tests.{eq-eqb}
 use Rattle.bounded.specs.Tests.{if_then_else_, Reflects}
 use Rattle.bounded.proofs.Cases.{cases}
-use Rattle.bounded.proofs.Reflection.{is-true, is-false, of-true, of-false, and-r, eqb-r, reflects-as}
+use Rattle.bounded.proofs.Reflection.{of-true, of-false, and-r, eqb-r, reflects-as}
 use Rattle.model.specs.declared.Description.{Description}
 use Rattle.model.specs.Description.{totalOf, columnCount}
-use Rattle.model.specs.Tables.{Cell, Row, cell, nocell, Level, State}
-use Rattle.model.specs.Buffers.{Buffers, holding, inside, positionOf, rowsIn, stateOf}
+use Rattle.model.specs.Tables.{Cell, Row, cell, Level, State}
+use Rattle.model.specs.Buffers.{holding, inside, positionOf, rowsIn, stateOf}
 use Rattle.model.proofs.Border.{Inside, inside-says, inside-shown}
 use Rattle.cells.specs.Layout.{InRow}
 use Rattle.cells.specs.Changed.{numberAt, valueAt, classAt, withCell, withValue, changeLevel}

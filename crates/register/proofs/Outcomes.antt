@@ -4,8 +4,7 @@ use Prim.Native.Nat.{ℕ}
 use mathlib.Core.Path.{_≡_, refl, sym, ap, _∙_}
 use mathlib.Core.Bool.{Bool, true, false}
 use mathlib.Core.List.{List, []}
-use mathlib.Core.Option.{Option, none, some}
-use lib.ListN.{length}
+use mathlib.Core.Option.{none, some}
 use Rattle.bounded.specs.Lists.{writeAt}
 use Rattle.bounded.proofs.Lists.{write-none}
 use Rattle.model.specs.declared.Description.{Description}
@@ -21,13 +20,13 @@ use Rattle.model.specs.Buffers.{holding, fitting, stateOf, buffersOf}
 use Rattle.model.specs.Ledger.{Ledger, lending, cellsOf, lentFits, pagesOf, ledgerOf}
 use Rattle.model.specs.Judge.{legal, legalPages}
 use Rattle.model.specs.Effect.{Effect}
-use Rattle.model.specs.Select.{Shown, valuesShown, ownersShown}
-use Rattle.model.specs.Run.{Request, Outcome, subject, relation, metCount, formed, further, firstFault, tests, refusal, effectAs, left, after, shownAs, countAs, refused, done, run}
+use Rattle.model.specs.Select.{valuesShown, ownersShown}
+use Rattle.model.specs.Run.{Request, subject, relation, metCount, formed, further, firstFault, tests, refusal, effectAs, left, after, shownAs, countAs, refused, done, run}
 use Rattle.model.proofs.Border.{buffers-state}
 use Rattle.model.proofs.Pages.{ledger-path}
 use Rattle.theory.proofs.Calls.{run-refused, run-done}
 use Rattle.change.specs.Facts as change
-use Rattle.change.specs.Facts.{sight, Answered, Showed, shows, Inserts, Deletes, Updates, Uplevels, Selects, metRows}
+use Rattle.change.specs.Facts.{sight, Answered, shows, Inserts, Deletes, Updates, Uplevels, Selects, metRows}
 use Rattle.register.specs.Facts.{Judged}
 use Rattle.register.specs.Calls.{outcome, Carried, refuses, does}
 

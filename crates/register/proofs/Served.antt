@@ -5,7 +5,6 @@ use mathlib.Core.Path.{_≡_, sym, _∙_}
 use mathlib.Core.Bool.{Bool, true, _&&_}
 use mathlib.Core.List.{List}
 use native.Mathlib.Omega.{arith}
-use lib.Dec.{eqb, ltb}
 use lib.ListN.{length, getD}
 use borrow.Author.Tests.{ltb-true}
 use Rattle.bounded.proofs.Cases.{and-left, and-right}
@@ -14,14 +13,14 @@ use Rattle.model.specs.declared.Description.{Description}
 use Rattle.model.specs.declared.What.{What}
 use Rattle.model.specs.declared.What.the-variants as Whats
 use Rattle.model.specs.Description.{isLevel, isRelation, columnCount, totalOf}
-use Rattle.model.specs.Buffers.{holding, fitting, stateOf}
+use Rattle.model.specs.Buffers.{holding, fitting}
 use Rattle.model.specs.Conditions.{conditionsFormed}
 use Rattle.model.specs.Insert.{insertFormed}
 use Rattle.model.specs.Update.{updateFormed}
 use Rattle.model.specs.Uplevel.{uplevelFormed}
 use Rattle.model.specs.Select.{selectFormed}
 use Rattle.model.specs.Run.{Request, subject, relation, formed, formedAs, empty}
-use Rattle.model.proofs.Sound.{relation-r, relation-of}
+use Rattle.model.proofs.Sound.{relation-of}
 use Rattle.cells.specs.declared.layout.Part.{Part}
 use Rattle.cells.specs.Layout.{Laid}
 use Rattle.cells.proofs.Counts.{sound-says, relation-few, column-count}

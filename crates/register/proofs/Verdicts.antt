@@ -15,7 +15,7 @@ use Rattle.model.specs.Buffers.{holding}
 use Rattle.model.specs.Ledger.{Ledger, lending, lentFits, pagesOf}
 use Rattle.model.specs.Judge.{legalPages, judge}
 use Rattle.model.specs.Numbers.{verdictNumber}
-use Rattle.register.specs.Facts.{Ordering, Judged}
+use Rattle.register.specs.Facts.{Judged}
 
 abbrev said : Bool → Bool → Bool → Verdict
 said s f l = if not s then Verdicts.Description else if not f then Verdicts.Length else if not l then Verdicts.Illegal else Verdicts.Legal

@@ -3,7 +3,6 @@ use model::Description;
 use model::Statement;
 use model::What;
 ghost use mathlib.Core.Path.{_≡_};
-ghost use lib.ListN.{length};
 ghost use Rattle.model.specs.declared.What.the-variants as Whats;
 ghost use Rattle.model.specs.Run.{formedAs};
 ghost use Rattle.asked.specs.Facts.{Ordered, Related};

@@ -2,7 +2,7 @@
 -- Assumes nothing.
 use Prim.Native.Nat.{ℕ, suc, _<_, suc-le-suc}
 use mathlib.Core.Bool.{Bool, true, false, not, _&&_, _||_, true≢false}
-use mathlib.Core.List.{List, [], _∷_}
+use mathlib.Core.List.{List}
 use mathlib.Core.Logic.{_≢_, _⊎_, inl, inr}
 use mathlib.Core.Option.{Option, none, some}
 use mathlib.Core.Path.{_≡_, refl, sym, ap, _∙_, subst, fun-ext}
@@ -10,10 +10,10 @@ use native.Mathlib.Omega.{arith}
 use lib.Dec.{eqb}
 use borrow.Author.Tests.{not-true}
 use Rattle.bounded.specs.Bounded.{anyBelow}
-use Rattle.bounded.specs.Tests.{if_then_else_, Reflects}
+use Rattle.bounded.specs.Tests.{Reflects}
 use Rattle.bounded.proofs.Any.{any-none, Any, some-does, none-does, any-cases}
-use Rattle.bounded.proofs.Cases.{cases, and-left, and-right}
-use Rattle.bounded.proofs.Reflection.{if-cases, is-true, of-true, bool-r, not-r, and-r, or-r, eqb-r, ltb-r}
+use Rattle.bounded.proofs.Cases.{and-left, and-right}
+use Rattle.bounded.proofs.Reflection.{is-true, of-true, bool-r, not-r, and-r, or-r, eqb-r, ltb-r}
 use Rattle.model.specs.Conditions.{met}
 use Rattle.model.specs.Delete.{referred, deleteTests, deleted}
 use Rattle.model.specs.Description.{isLevel, over, rowCount, foreignOf, refersOf, isColumn, inRange}
@@ -27,7 +27,6 @@ use Rattle.model.specs.Update.{updateFormed, anyMet, updateTests, updated}
 use Rattle.model.specs.Uplevel.{uplevelFormed, based, entityOf, borrowedNames, uplevelTests, borrowed, raised, uplevelled}
 use Rattle.model.specs.declared.Description.{Description}
 use Rattle.model.specs.declared.What.{What}
-use Rattle.model.specs.declared.Fault.{Fault}
 use Rattle.theory.specs.Laws.{Laws}
 use Rattle.theory.proofs.Described.{row-relation}
 use Rattle.model.proofs.Sound.{relation-r}

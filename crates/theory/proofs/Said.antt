@@ -15,7 +15,7 @@ use Rattle.model.specs.Delete.{deleted}
 use Rattle.model.specs.Description.{rowCount, foreignOf, refersOf}
 use Rattle.model.specs.Effect.{keep, only, Effect, changed, reach, carry, applied}
 use Rattle.model.specs.Legal.{LegalPages}
-use Rattle.model.specs.Run.{Request, subject, relation, further, tests, effectAs, left, after}
+use Rattle.model.specs.Run.{Request, subject, relation, further, effectAs, left, after}
 use Rattle.model.specs.Tables.{Cell, cell, nocell, Row, State, Tables, rowsOf, seen, at, lends}
 use Rattle.model.specs.declared.Description.{Description}
 use Rattle.model.specs.declared.What.the-variants as Whats

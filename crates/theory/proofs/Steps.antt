@@ -35,7 +35,6 @@ use Rattle.theory.proofs.Accepted.{accepted}
 use Rattle.theory.proofs.State.{fault, acts, step, reply}
 use Rattle.theory.specs.Queues.{Merge, Each, SameRun}
 use Rattle.theory.proofs.Runs.{Low, Apart, StepLaws}
-use Rattle.model.specs.declared.Fault.the-variants as Faults
 use Rattle.theory.proofs.Runs as Runs
 
 abbrev stored : Tables → State

@@ -1,5 +1,3 @@
-use mathlib.Core.Path.{refl}
-use native.Mathlib.Omega.{arith}
 use borrow.Author.Needs.{needs}
 use Rattle.register.proofs.Outcomes.{insert-carried, delete-carried, update-carried, uplevel-carried, select-carried}
 use Rattle.register.proofs.Served.{relation-known, insert-shape, delete-shape, update-shape, uplevel-shape, select-shape, standing-of}
