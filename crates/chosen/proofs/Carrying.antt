@@ -32,12 +32,12 @@ use Rattle.cells.specs.declared.layout.Part.{Part}
 use Rattle.cells.specs.Changed.{changeLevel}
 use Rattle.cells.proofs.Cells.{state-path}
 use Rattle.cells.proofs.Changes.{change-here, change-other}
-use Rattle.conditions.specs.Facts.{ChosenBy, Counted, metAt}
+use Rattle.conditions.specs.Facts.{ChosenBy, ChosenAt, Counted, metAt}
 use Rattle.above.specs.declared.plan.Plan.{Plan}
 use Rattle.above.specs.Facts.{chosenAt, aboveOf, carried, withRows, Working}
 use Rattle.above.proofs.Carried.{carried-own, carried-aside, carried-cell}
 use Rattle.change.specs.Facts.{Standing, sight, metRows}
-use Rattle.chosen.specs.Choosing.{Picked, Chosen, rowChosen}
+use Rattle.chosen.specs.Choosing.{Chosen, rowChosen}
 use Rattle.change.proofs.Answers.{left-own, left-over, left-other}
 use Rattle.change.proofs.Known.{own-over}
 
@@ -176,9 +176,9 @@ module _ {d : Description} {order : List (List Bool)} {r c : ℕ} {p : Part} {vs
   pub own-seen : sight d c vs cs c .rows ≡ T c .rows
   own-seen = seen-own d T c (own-over K)
 
-  -- ---- the rows that are picked
+  -- ---- the rows that meet the conditions
 
-  module _ (conditions : List ℕ) {chosen : List Bool} (M : Picked d r c conditions vs cs chosen) where
+  module _ (conditions : List ℕ) {chosen : List Bool} (M : ChosenAt d r c conditions vs cs chosen) where
     pub counted : {count : ℕ} → Counted (p .rows) chosen count → count ≡ metRows d c r conditions (sight d c vs cs)
     unfolding metRows
     counted C = rw own-seen (count-met d conditions (rowCount d r) (T c .rows r) chosen M (rw (K .laid .rows) at C))
@@ -186,14 +186,14 @@ module _ {d : Description} {order : List (List Bool)} {r c : ℕ} {p : Part} {vs
     empty-past : (i : ℕ) → rowCount d r ≤ i → T c .rows r i 1 .value ≡ 0
     empty-past i h = ap (λ (x : Cell). x .value) (legal-of .outside r c i 1 h)
 
-    pub picked-own : (s i : ℕ) → (eqb s r && getD chosen i false) ≡ (eqb s r && met d conditions (T c .rows s i))
-    picked-own s i =
+    pub own-met : (s i : ℕ) → (eqb s r && getD chosen i false) ≡ (eqb s r && met d conditions (T c .rows s i))
+    own-met s i =
         cases (eqb s r)
         (λ t. rw (eqb-true s r t, eq-eqb r r refl) (row-met d conditions (rowCount d r) (T c .rows r) chosen M empty-past i))
         (λ t. rw t)
 
-    pub picked-above : (s v : ℕ) → (eqb s r && chosenAt (rowCount d s) chosen (T c .rows s) v) ≡ (eqb s r && met d conditions (seek (rowCount d s) (T c .rows s) v))
-    picked-above s v =
+    pub above-met : (s v : ℕ) → (eqb s r && chosenAt (rowCount d s) chosen (T c .rows s) v) ≡ (eqb s r && met d conditions (seek (rowCount d s) (T c .rows s) v))
+    above-met s v =
         cases (eqb s r)
         (λ t. rw (eqb-true s r t, eq-eqb r r refl) (sought-met d conditions (rowCount d r) (T c .rows r) chosen M v))
         (λ t. rw t)

@@ -18,8 +18,8 @@ use Rattle.model.specs.Listed.{pairs, columnAt, lists}
 use Rattle.model.specs.Effect.{Rows, Effect, keep, only}
 use Rattle.model.specs.Update.{setIn, takeIn}
 use Rattle.model.specs.Run.{left}
-use Rattle.cells.specs.Changed.{valueAt, keyPlace, changeLevel, withRow}
-use Rattle.conditions.specs.Facts.{ChosenBy, metAt}
+use Rattle.cells.specs.Changed.{valueAt, keyPlace}
+use Rattle.cells.specs.Stored.{LevelBecomes, RowBecomes}
 use Rattle.above.specs.Facts.{chosenAt, withRows}
 
 -- ---- what is listed
@@ -40,10 +40,6 @@ unfoldable pub kindListed : List ℕ → ℕ → ℕ
 kindListed list k = if lists list k then 1 else 0
 
 -- ---- rows that are chosen
-
--- of the rows at c those are chosen that meet the conditions
-abbrev pub Picked : Description → ℕ → ℕ → List ℕ → List ℕ → List ℕ → List Bool → Type 0
-Picked d r c conditions values classes = ChosenBy (rowCount d r) (metAt d conditions (stateOf d (holding values classes) c .rows r))
 
 -- only rows in use are chosen, and none past the last
 pub record Chosen (n : ℕ) (B : ℕ → Row) (chosen : List Bool) : Type 0 where
@@ -85,14 +81,12 @@ emptyChosen d c r chosen B =
 
 -- row i at c is as F makes it, and nothing else has changed
 abbrev pub RowDone : Description → ℕ → ℕ → ℕ → (Row → Row) → List ℕ → List ℕ → List ℕ → List ℕ → Type 0
-RowDone d r c i F vs cs vs′ cs′ =
-    stateOf d (holding vs′ cs′) ≡ changeLevel c (withRow (columnCount d r) r i (F (stateOf d (holding vs cs) c .rows r i))) (stateOf d (holding vs cs))
+RowDone d r c i F vs cs = RowBecomes d r c i (F (stateOf d (holding vs cs) c .rows r i)) vs cs
 
 -- of the first n rows at c those that are chosen are as F makes them, and nothing else has changed
 abbrev pub RowsDoneBelow : ℕ → Description → ℕ → ℕ → List Bool → (Row → Row) → List ℕ → List ℕ → List ℕ → List ℕ → Type 0
-RowsDoneBelow n d r c chosen F vs cs vs′ cs′ =
-    stateOf d (holding vs′ cs′)
-    ≡ changeLevel c (withRows n (columnCount d r) r (λ i. rowChosen chosen F i (stateOf d (holding vs cs) c .rows r i))) (stateOf d (holding vs cs))
+RowsDoneBelow n d r c chosen F vs cs =
+    LevelBecomes d c (withRows n (columnCount d r) r (λ i. rowChosen chosen F i (stateOf d (holding vs cs) c .rows r i))) vs cs
 
 -- the same of all rows at c
 abbrev pub RowsDone : Description → ℕ → ℕ → List Bool → (Row → Row) → List ℕ → List ℕ → List ℕ → List ℕ → Type 0

@@ -28,14 +28,14 @@ use Rattle.cells.specs.declared.layout.Part.{Part}
 use Rattle.cells.specs.Changed.{valueAt, keyPlace, changeLevel}
 use Rattle.cells.proofs.Cells.{state-cell}
 use Rattle.cells.proofs.Sought.{place-key}
-use Rattle.conditions.specs.Facts.{Counted}
+use Rattle.conditions.specs.Facts.{ChosenAt, Counted}
 use Rattle.above.specs.declared.plan.Plan.{Plan}
 use Rattle.above.specs.Facts.{chosenAt, changeOf, aboveOf, carried, withRows, Working, Planned}
 use Rattle.theory.proofs.Seen.{seen-own}
 use Rattle.change.specs.Facts.{Standing, Deletes, does, sight}
-use Rattle.chosen.specs.Choosing.{Picked, Chosen, rowChosen, emptyChosen, namesChosen, rowRefers, refersChosen, referredChosen}
+use Rattle.chosen.specs.Choosing.{Chosen, rowChosen, emptyChosen, namesChosen, rowRefers, refersChosen, referredChosen}
 use Rattle.cells.proofs.Counts.{sound-says, relation-is}
-use Rattle.chosen.proofs.Carrying.{left-chosen, sought-met, own-seen, counted, picked-own, picked-above}
+use Rattle.chosen.proofs.Carrying.{left-chosen, sought-met, own-seen, counted, own-met, above-met}
 
 -- ---- the plan
 
@@ -113,7 +113,7 @@ module _ (P : Plan) (N : Nulling P) where
 
 -- ---- its test
 
-module _ (d : Description) (vs cs : List ℕ) (c r : ℕ) (o : over d c c ≡ true) (conditions : List ℕ) {chosen : List Bool} (M : Picked d r c conditions vs cs chosen) where
+module _ (d : Description) (vs cs : List ℕ) (c r : ℕ) (o : over d c c ≡ true) (conditions : List ℕ) {chosen : List Bool} (M : ChosenAt d r c conditions vs cs chosen) where
   abbrev S₀ : State
   S₀ = stateOf d (holding vs cs)
 
@@ -144,24 +144,24 @@ module _ (d : Description) (vs cs : List ℕ) (c r : ℕ) (o : over d c c ≡ tr
 -- ---- the effect, by what meets the conditions, and what is answered
 
 module _ {d : Description} {order : List (List Bool)} {r c : ℕ} {p : Part} {vs cs : List ℕ} (K : Standing d order r c p vs cs) (conditions : List ℕ)
-    {chosen : List Bool} (M : Picked d r c conditions vs cs chosen) where
+    {chosen : List Bool} (M : ChosenAt d r c conditions vs cs chosen) where
   abbrev T : State
   T = stateOf d (holding vs cs)
 
   gone-met : (s v : ℕ) (b : Bool) → (eqb s r && (chosenAt (rowCount d s) chosen (T c .rows s) v && b)) ≡ (eqb s r && (met d conditions (seek (rowCount d s) (T c .rows s) v) && b))
   gone-met s v b =
       sym (and-assoc (eqb s r) (chosenAt (rowCount d s) chosen (T c .rows s) v) b)
-      ∙ ap (λ (a : Bool). a && b) (picked-above K conditions M s v)
+      ∙ ap (λ (a : Bool). a && b) (above-met K conditions M s v)
       ∙ and-assoc (eqb s r) (met d conditions (seek (rowCount d s) (T c .rows s) v)) b
 
   effect-is : emptyChosen d c r chosen (T c .rows) ≡ deleted d c r conditions (sight d c vs cs c .rows)
   unfolding emptyChosen deleted
   effect-is =
       ap₂ (λ (N : Rows) (A : Above). record { own = N; above = A })
-      (fun-ext (λ s. fun-ext (λ i. ap (λ (b : Bool). if b then norow else T c .rows s i) (picked-own K conditions M s i))))
+      (fun-ext (λ s. fun-ext (λ i. ap (λ (b : Bool). if b then norow else T c .rows s i) (own-met K conditions M s i))))
       (ap₂ (λ (g : ℕ → ℕ → Bool) (f : ℕ → ℕ → ℕ → Change). record { gone = g; change = f })
       (fun-ext (λ s. fun-ext (λ v. gone-met s v _)))
-      (fun-ext (λ s. fun-ext (λ v. fun-ext (λ k. ap (λ (b : Bool). if b then only nocell else keep) (picked-above K conditions M s v))))))
+      (fun-ext (λ s. fun-ext (λ v. fun-ext (λ k. ap (λ (b : Bool). if b then only nocell else keep) (above-met K conditions M s v))))))
       ∙ ap (deleted d c r conditions) (sym (own-seen K))
 
   pub delete-done : firstFault (deleteTests d c r conditions (sight d c vs cs)) ≡ none → {count : ℕ} → Counted (p .rows) chosen count → {us ds : List ℕ}

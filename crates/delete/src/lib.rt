@@ -22,7 +22,8 @@ ghost use Rattle.model.specs.Delete.{deleteTests};
 ghost use Rattle.cells.specs.Layout.{Laid, Sized, Lent, InLevel};
 ghost use Rattle.change.specs.Facts.{Standing, Naming, Deletes, sight};
 ghost use Rattle.change.specs.Tests.{ended};
-ghost use Rattle.chosen.specs.Choosing.{Picked, OnlyUsed, emptyChosen, RowsDone, Leaves, namesChosen, refersChosen, referredChosen};
+ghost use Rattle.conditions.specs.Facts.{ChosenAt};
+ghost use Rattle.chosen.specs.Choosing.{OnlyUsed, emptyChosen, RowsDone, Leaves, namesChosen, refersChosen, referredChosen};
 
 // Whether a row of a relation at the subject's level refers to a chosen row.
 fn refers(
@@ -177,7 +178,7 @@ fn check(
     level: usize,
 ) -> Test
     requires { ⌜ Naming description relation level (length (now values)) × Laid description relation part ⌝ }
-    requires { ⌜ Picked description relation level (now conditions) (now values) (now classes) chosen ⌝ }
+    requires { ⌜ ChosenAt description relation level (now conditions) (now values) (now classes) chosen ⌝ }
     ensures { λ r. ⌜ r ≡ ended (deleteTests description level relation (now (conditions .entry)) (sight description level (now (values .entry)) (now (classes .entry)))) ⌝ }
 {
     if referred(values, description, relation, part, chosen, level) {

@@ -31,13 +31,13 @@ use Rattle.model.specs.Run.{firstFault, left}
 use Rattle.model.proofs.Sound.{between-r, column-r}
 use Rattle.cells.specs.declared.layout.Part.{Part}
 use Rattle.cells.specs.Changed.{changeLevel}
-use Rattle.conditions.specs.Facts.{Counted}
+use Rattle.conditions.specs.Facts.{ChosenAt, Counted}
 use Rattle.above.specs.declared.plan.Plan.{Plan}
 use Rattle.above.specs.Facts.{changeOf, aboveOf, carried, withRows, Planned}
 use Rattle.change.specs.Facts.{Standing, Updates, does, sight, metRows, valueListed}
-use Rattle.chosen.specs.Choosing.{Listing, ByColumn, Picked, Chosen, kindListed, rowChosen, setChosen}
+use Rattle.chosen.specs.Choosing.{Listing, ByColumn, Chosen, kindListed, rowChosen, setChosen}
 use Rattle.change.proofs.Answers.{listed-seen}
-use Rattle.chosen.proofs.Carrying.{left-chosen, any-counted, own-seen, counted, picked-own, picked-above}
+use Rattle.chosen.proofs.Carrying.{left-chosen, any-counted, own-seen, counted, own-met, above-met}
 use Rattle.update.proofs.Setting.{listed-there, listed-nowhere}
 
 -- ---- what is listed for a column
@@ -176,7 +176,7 @@ module _ (d : Description) (vs cs : List ℕ) (c r : ℕ) (o : over d c c ≡ tr
 -- ---- the effect, by what meets the conditions, and what is answered
 
 module _ {d : Description} {order : List (List Bool)} {r c : ℕ} {p : Part} {vs cs : List ℕ} (K : Standing d order r c p vs cs) (list conditions : List ℕ)
-    {chosen : List Bool} (M : Picked d r c conditions vs cs chosen) where
+    {chosen : List Bool} (M : ChosenAt d r c conditions vs cs chosen) where
   abbrev T : State
   T = stateOf d (holding vs cs)
 
@@ -184,9 +184,9 @@ module _ {d : Description} {order : List (List Bool)} {r c : ℕ} {p : Part} {vs
   unfolding setChosen updated
   effect-is =
       ap₂ (λ (N : Rows) (A : Above). record { own = N; above = A })
-      (fun-ext (λ s. fun-ext (λ i. ap (λ (b : Bool). if b then setIn c list (T c .rows s i) else T c .rows s i) (picked-own K conditions M s i))))
+      (fun-ext (λ s. fun-ext (λ i. ap (λ (b : Bool). if b then setIn c list (T c .rows s i) else T c .rows s i) (own-met K conditions M s i))))
       (ap (λ (f : ℕ → ℕ → ℕ → Change). record { gone = λ s v. false; change = f })
-      (fun-ext (λ s. fun-ext (λ v. fun-ext (λ k. ap (λ (b : Bool). if b then takeIn list k else keep) (picked-above K conditions M s v))))))
+      (fun-ext (λ s. fun-ext (λ v. fun-ext (λ k. ap (λ (b : Bool). if b then takeIn list k else keep) (above-met K conditions M s v))))))
       ∙ ap (updated d c r list conditions) (sym (own-seen K))
 
   pub update-done : firstFault (updateTests d c r list conditions (sight d c vs cs)) ≡ none → {count : ℕ} → Counted (p .rows) chosen count → {us ds : List ℕ}
