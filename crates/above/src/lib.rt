@@ -1,4 +1,6 @@
 // What a statement leaves in the rows above its subject's level.
+#![tactic(auto)]
+
 pub mod find;
 pub mod plan;
 mod reach;

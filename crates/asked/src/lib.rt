@@ -1,4 +1,6 @@
 // What a statement's lists say: which columns and levels they name.
+#![tactic(auto)]
+
 pub mod levels;
 pub mod pairs;
 pub mod ranges;

@@ -1,1 +1,2 @@
 // No code: the definitions stand in specs/, their laws in proofs/.
+#![tactic(auto)]

@@ -1,4 +1,6 @@
 // Conditions: whether they are well formed, and which rows meet them.
+#![tactic(auto)]
+
 ghost use Rattle.std.specs.Prelude.{◌≡◌, leb, length, ◌≤◌, ◌<◌};
 ghost use Rattle.model.specs.Conditions.{condition_at, condition_count, condition_formed, conditions_formed, constant_formed, meets_test, meets as meets_of};
 ghost use Rattle.model.specs.Description.{column_count, row_count};

@@ -1,4 +1,6 @@
 // DELETE.
+#![tactic(auto)]
+
 ghost use Rattle.std.specs.Prelude.{◌≡◌, true, length, ◌<◌};
 ghost use Rattle.model.specs.Tables.{norow};
 ghost use Rattle.model.specs.Conditions.{conditions_formed};

@@ -1,4 +1,6 @@
 // When a description is sound. It may be damaged: nothing is read of it before it is known to be there.
+#![tactic(auto)]
+
 ghost use Rattle.std.specs.Prelude.{◌≡◌, not, suc, ◌*◌, ◌<◌, ◌≤◌, eqb, leb, get_or};
 ghost use Rattle.bounded.specs.Bounded.{all_below};
 ghost use Rattle.level.specs.Order.{order_of};

@@ -1,4 +1,6 @@
 // INSERT (columns and values).
+#![tactic(auto)]
+
 ghost use Rattle.std.specs.Prelude.{◌≡◌, true, ◌≤◌};
 ghost use Rattle.model.specs.Buffers.{holding, state_of};
 ghost use Rattle.model.specs.Effect.{lowest_empty};

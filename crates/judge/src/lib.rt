@@ -1,4 +1,6 @@
 // The judge of tables: whether a description is sound, whether two buffers are as long as it says, and whether they hold legal tables.
+#![tactic(auto)]
+
 mod lenders;
 mod references;
 mod rows;

@@ -1,5 +1,7 @@
 // What is laid out of a description and its tables before the rows are judged. Here: the keys of the rows, gathered side by side, a search among
 // them, and that none stands twice.
+#![tactic(auto)]
+
 pub mod areas;
 pub mod words;
 

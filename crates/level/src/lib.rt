@@ -1,4 +1,6 @@
 // Labels, which of them dominates which, and the order of a list of levels.
+#![tactic(auto)]
+
 ghost use Rattle.std.specs.Prelude.{◌≡◌, ◌<◌};
 ghost use Rattle.level.specs.Label.{bottom_label, dominates, height_of};
 ghost use Rattle.level.specs.Order.{entry_of, level_dominates, order_of, row_of};

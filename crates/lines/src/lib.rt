@@ -1,4 +1,6 @@
 // What is printed for an answer, as bytes into a lent buffer.
+#![tactic(auto)]
+
 mod digits;
 mod rows;
 

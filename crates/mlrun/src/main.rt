@@ -1,5 +1,7 @@
 // Reads records from standard input, one after the other, and writes what each prints to standard output (01, "mlrun"). It fills a buffer,
 // takes a step and writes; what a step does is proved in `stream`.
+#![tactic(auto)]
+
 mod reading;
 mod waiting;
 mod writing;

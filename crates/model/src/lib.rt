@@ -1,4 +1,5 @@
 // The register's types: what is handed in, and what is answered.
+#![tactic(auto)]
 
 // What the tables are like. It is public, and may be damaged: a count may be larger than its array.
 // Relations and columns are numbered from 1, levels and rows from 0; what stands at place 0 of an array by relation is not read.

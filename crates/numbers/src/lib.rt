@@ -1,4 +1,6 @@
 // 01's numbers: what each fault, answer and verdict is called there.
+#![tactic(auto)]
+
 ghost use Rattle.std.specs.Prelude.{◌≡◌};
 ghost use Rattle.model.specs.Numbers.{fault_number, answer_number, count_of, verdict_number};
 

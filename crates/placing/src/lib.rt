@@ -1,4 +1,6 @@
 // A row of the tables as they are handed in, placed in the lowest empty row.
+#![tactic(auto)]
+
 ghost use Rattle.std.specs.Prelude.{◌≡◌, true, ◌&&◌, ◌≤◌};
 ghost use Rattle.model.specs.Description.{sound, is_level, is_relation};
 ghost use Rattle.model.specs.Buffers.{holding, fitting};

@@ -1,4 +1,6 @@
 // mlrun's records, read one at a time.
+#![tactic(auto)]
+
 pub mod bytes;
 pub mod descriptions;
 mod kinds;

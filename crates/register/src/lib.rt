@@ -1,4 +1,6 @@
 // The register: what a laboratory calls.
+#![tactic(auto)]
+
 mod formed;
 mod serve;
 

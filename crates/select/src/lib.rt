@@ -1,4 +1,6 @@
 // SELECT.
+#![tactic(auto)]
+
 ghost use Rattle.std.specs.Prelude.{◌≡◌, true, [], ◌∷◌, ◌++◌, length, ◌+◌, ◌≤◌, ◌<◌};
 ghost use Rattle.bounded.specs.Lists.{write_at};
 ghost use Rattle.model.specs.Description.{column_count};

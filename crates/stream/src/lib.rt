@@ -1,4 +1,6 @@
 // One record of mlrun's stream: what it does to what is kept, and what it prints.
+#![tactic(auto)]
+
 ghost use Rattle.std.specs.Prelude.{◌≡◌, min};
 ghost use Rattle.model.specs.Description.{column_count};
 ghost use Rattle.stream.specs.Step.{refuses, labels_turn, relation_turn, row_turn, statement_turn, step as step_of};

@@ -1,1 +1,2 @@
 // No code: theorems about what `model` defines.
+#![tactic(auto)]

@@ -10,6 +10,8 @@
 //                                  the statement is run on the tables; its answer is printed between all cells before and after
 //   repeat TIMES KIND ..           the same so often, each time on the tables as they stand, or the judge for kind 0; the last answer is printed
 // Every other line is passed over.
+#![tactic(auto)]
+
 mod given;
 mod read;
 mod shown;

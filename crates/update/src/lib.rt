@@ -1,4 +1,6 @@
 // UPDATE.
+#![tactic(auto)]
+
 ghost use Rattle.std.specs.Prelude.{◌≡◌, true, false, ◌||◌, List, eqb, length, ℕ, ◌<◌};
 ghost use Rattle.model.specs.Description.{is_column, column_count};
 ghost use Rattle.model.specs.Tables.{rows_of};

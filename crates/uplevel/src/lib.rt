@@ -1,4 +1,6 @@
 // UPLEVEL (key value, optional key class, list of column FROM level).
+#![tactic(auto)]
+
 mod effect;
 mod lenders;
 mod made;
