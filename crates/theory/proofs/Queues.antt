@@ -15,6 +15,7 @@ each_of [] f = no_more
 each_of (x ∷ xs) f = more (f x first) (each_of xs (λ y i. f y (later i)))
 
 each_in : {A : Type 0} {P : A → Type 0} {xs : List A} {x : A} → Each P xs → In x xs → P x
+each_in no_more i = elim i [ ]
 each_in (more p e) first = p
 each_in (more p e) (later i) = each_in e i
 
