@@ -9,7 +9,7 @@ use crate::ranges::{over, takes};
 use model::Description;
 
 // What is asked of each pair.
-#[derive(Drop)]
+#[derive(Clone, Copy)]
 pub enum Rule {
     // the column exists
     Column,

@@ -7,7 +7,7 @@ ghost use Rattle.cells.specs.Layout.{Laid, Count, Placed};
 use model::Description;
 
 // Where a relation's cells begin, and how many rows and columns it has.
-#[derive(Drop)]
+#[derive(Clone, Copy)]
 pub struct Part {
     pub start: usize,
     pub rows: usize,

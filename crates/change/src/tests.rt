@@ -2,7 +2,7 @@
 use model::Fault;
 
 // No test fails, or this is the fault of the first that does.
-#[derive(Drop)]
+#[derive(Clone, Copy)]
 pub enum Test {
     Passed,
     Failed(Fault),

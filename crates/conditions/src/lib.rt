@@ -14,7 +14,7 @@ use cells::read::{class_at, value_at};
 use model::Description;
 
 // One condition, as it is asked.
-#[derive(Drop)]
+#[derive(Clone, Copy)]
 struct Asked {
     column: u32,
     mark: u32,

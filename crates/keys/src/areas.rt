@@ -8,7 +8,7 @@ use model::Description;
 
 // A relation: its number, where its cells and its keys start, how many levels there are, how many rows each of them has and how many columns, and
 // the column of its foreign key, 0 for none.
-#[derive(Drop)]
+#[derive(Clone, Copy)]
 pub struct Area {
     pub relation: usize,
     pub start: usize,

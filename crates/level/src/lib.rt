@@ -6,7 +6,7 @@ ghost use Rattle.level.specs.Label.{bottom_label, dominates, height_of};
 ghost use Rattle.level.specs.Order.{entry_of, level_dominates, order_of, row_of};
 
 // A rank, and below it 8 bits, one for each compartment.
-#[derive(Drop)]
+#[derive(Clone, Copy)]
 pub struct Label(pub u16);
 
 impl Label {

@@ -17,7 +17,7 @@ use stream::step;
 use writing::{drain, left, put};
 
 // Where the run stands: what is there of the input, what waits to be written, and what is kept from record to record.
-#[derive(Drop)]
+#[derive(Clone, Copy)]
 struct State {
     from: usize,
     to: usize,

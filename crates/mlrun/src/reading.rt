@@ -9,7 +9,7 @@ use input::buffer::shift;
 use input::front::wanted;
 
 // What a read came to: how many bytes came, none at the end of the input; whether it is to be made again; whether it could be done.
-#[derive(Drop)]
+#[derive(Clone, Copy)]
 struct Came {
     count: usize,
     again: bool,
@@ -17,7 +17,7 @@ struct Came {
 }
 
 // Where in the buffer the bytes stand that were read and not used yet, and whether the input could be read.
-#[derive(Drop)]
+#[derive(Clone, Copy)]
 pub(crate) struct Window {
     pub(crate) from: usize,
     pub(crate) to: usize,

@@ -7,7 +7,7 @@ use crate::waiting::again;
 const ROOM: usize = 131072;
 
 // What a write came to: how many bytes went, and whether it is to be made again.
-#[derive(Drop)]
+#[derive(Clone, Copy)]
 struct Went {
     count: usize,
     again: bool,

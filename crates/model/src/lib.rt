@@ -3,7 +3,7 @@
 
 // What the tables are like. It is public, and may be damaged: a count may be larger than its array.
 // Relations and columns are numbered from 1, levels and rows from 0; what stands at place 0 of an array by relation is not read.
-#[derive(Drop)]
+#[derive(Clone, Copy)]
 pub struct Description {
     pub levels: u16,
     // by level
@@ -22,7 +22,7 @@ pub struct Description {
 
 // What a subject asks for. Its lists come beside it, flat: INSERT and UPDATE have pairs of column and value, UPLEVEL pairs of column and
 // FROM level, SELECT the AT levels; DELETE, UPDATE and SELECT have conditions, four numbers each.
-#[derive(Drop)]
+#[derive(Clone, Copy)]
 pub enum What {
     Insert,
     Delete,
@@ -33,7 +33,7 @@ pub enum What {
 }
 
 // A statement of a subject at a level, about a relation.
-#[derive(Drop)]
+#[derive(Clone, Copy)]
 pub struct Statement {
     pub level: u16,
     pub relation: u16,
@@ -41,7 +41,7 @@ pub struct Statement {
 }
 
 // Why a call is refused: 01's numbers 1 to 14, in their order.
-#[derive(Drop)]
+#[derive(Clone, Copy)]
 pub enum Fault {
     Description,
     Length,
@@ -60,14 +60,14 @@ pub enum Fault {
 }
 
 // What one call is answered.
-#[derive(Drop)]
+#[derive(Clone, Copy)]
 pub enum Answer {
     Done { count: u32 },
     Refused(Fault),
 }
 
 // What the judge of tables says.
-#[derive(Drop)]
+#[derive(Clone, Copy)]
 pub enum Verdict {
     Legal,
     Description,

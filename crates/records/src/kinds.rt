@@ -4,7 +4,7 @@ ghost use Rattle.model.specs.Description.{between as between_of};
 ghost use Rattle.records.specs.Kinds.{is_kind, lists as lists_of, form_of};
 
 // What an entry of a list is.
-#[derive(Drop)]
+#[derive(Clone, Copy)]
 pub enum Entry {
     // there is no list
     None,
@@ -19,7 +19,7 @@ pub enum Entry {
 }
 
 // What a statement's record has behind its level and its relation: where its list begins, what an entry of it is, and what a condition is.
-#[derive(Drop)]
+#[derive(Clone, Copy)]
 pub struct Form {
     pub at: usize,
     pub list: Entry,

@@ -10,7 +10,7 @@ pub mod whole;
 use model::Statement;
 
 // What a record is read to.
-#[derive(Drop)]
+#[derive(Clone, Copy)]
 pub enum Read {
     // the statement, and how many numbers its list and its conditions have
     Statement {

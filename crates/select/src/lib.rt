@@ -31,7 +31,7 @@ pub fn formed(list: &[u32], description: Description) -> bool
 }
 
 // Levels in the order in which they are shown.
-#[derive(Drop)]
+#[derive(Clone, Copy)]
 struct Levels {
     count: usize,
     levels: [u8; 16],
@@ -145,7 +145,7 @@ fn rows(
 }
 
 // Where the next row goes in each buffer.
-#[derive(Drop)]
+#[derive(Clone, Copy)]
 struct At {
     values: usize,
     owners: usize,

@@ -12,7 +12,7 @@ use records::statement::statement;
 use records::{Read, descriptions};
 
 // What is known after a record, beside the buffers.
-#[derive(Drop)]
+#[derive(Clone, Copy)]
 pub struct Stepped {
     // whether the next record is read
     pub goes: bool,

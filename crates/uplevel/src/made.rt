@@ -13,14 +13,14 @@ use cells::layout::Part;
 use model::Description;
 
 // A cell that an UPLEVEL makes.
-#[derive(Drop)]
+#[derive(Clone, Copy)]
 struct New {
     value: u32,
     class: u8,
 }
 
 // A row that it makes, by column.
-#[derive(Drop)]
+#[derive(Clone, Copy)]
 pub struct News {
     pub values: [u32; 9],
     pub classes: [u8; 9],
