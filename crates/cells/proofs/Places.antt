@@ -1,13 +1,12 @@
 -- Where cells stand: below the total, no two at one place.
 -- Assumes nothing.
-use Prim.Native.Nat.{ℕ, suc, pred, ◌+◌, ◌-◌, ◌*◌, ◌≤◌, ◌<◌}
-use mathlib.Core.Path.{◌≡◌, refl, sym, ap, ◌∙◌}
-use mathlib.Core.Logic.{◌⊎◌, inl, inr}
-use native.Mathlib.Nat.{le_refl, mul-le-mul_left}
+use Prim.Native.Nat.{ℕ, pred, ◌+◌, ◌-◌, ◌*◌, ◌≤◌, ◌<◌}
+use mathlib.Core.Path.{◌≡◌, sym, ap, ◌∙◌}
+use native.Mathlib.Nat.{mul-le-mul_left}
 use native.Mathlib.Decide.{dec_lt}
 use native.Mathlib.Numerals.{sub-one}
 use native.Mathlib.Omega.{arith}
-use lib.ListN.{length, get_or, get_or-eq_default}
+use lib.ListN.{get_or, get_or-eq_default}
 use Rattle.model.specs.declared.Description.{Description}
 use Rattle.model.specs.Description.{total_of, row_count, column_count, start_of}
 use Rattle.model.specs.Buffers.{position_of, in_order}

@@ -1,0 +1,12 @@
+use Rattle.cells.proofs.Counts.{sound-says}
+use Rattle.cells.proofs.layout.lay.Goals as goal
+
+pub returns : goal.returns
+returns c = record {
+  start = c.start.ensures;
+  rows = c.rows.ensures.is;
+  columns = c.columns.ensures.is;
+  few = c.rows.ensures.few;
+  narrow = c.columns.ensures.few;
+  total = (sound-says _ c.requires.description_value).total;
+}
