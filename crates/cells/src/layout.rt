@@ -16,8 +16,8 @@ pub struct Part {
 
 // How many rows a relation has at each level.
 fn rows(description: Description, relation: usize) -> usize
-    requires description_value { sound description ≡ true }
-    requires relation_value { is_relation description relation ≡ true }
+    requires sound_description { sound description ≡ true }
+    requires known_relation { is_relation description relation ≡ true }
     ensures { Count (row_count description relation) 64 result }
 {
     description.rows[relation] as usize
@@ -25,8 +25,8 @@ fn rows(description: Description, relation: usize) -> usize
 
 // How many columns a relation has.
 fn columns(description: Description, relation: usize) -> usize
-    requires description_value { sound description ≡ true }
-    requires relation_value { is_relation description relation ≡ true }
+    requires sound_description { sound description ≡ true }
+    requires known_relation { is_relation description relation ≡ true }
     ensures { Count (column_count description relation) 8 result }
 {
     description.columns[relation] as usize
@@ -34,8 +34,8 @@ fn columns(description: Description, relation: usize) -> usize
 
 // How many cells a relation has.
 fn size(description: Description, relation: usize) -> usize
-    requires description_value { sound description ≡ true }
-    requires relation_value { is_relation description relation ≡ true }
+    requires sound_description { sound description ≡ true }
+    requires known_relation { is_relation description relation ≡ true }
     ensures { Count (size_of description relation) 8192 result }
 {
     let levels = description.levels as usize;
@@ -44,8 +44,8 @@ fn size(description: Description, relation: usize) -> usize
 
 // Where a relation's cells begin: behind those of the relations before it.
 fn start(description: Description, relation: usize) -> usize
-    requires description_value { sound description ≡ true }
-    requires relation_value { is_relation description relation ≡ true }
+    requires sound_description { sound description ≡ true }
+    requires known_relation { is_relation description relation ≡ true }
     ensures { result ≡ start_of description relation }
 {
     let mut start = 0;
@@ -59,8 +59,8 @@ fn start(description: Description, relation: usize) -> usize
 
 // The numbers of a relation, laid out once.
 pub fn lay(description: Description, relation: usize) -> Part
-    requires description_value { sound description ≡ true }
-    requires relation_value { is_relation description relation ≡ true }
+    requires sound_description { sound description ≡ true }
+    requires known_relation { is_relation description relation ≡ true }
     ensures { Laid description relation result }
 {
     Part {
@@ -80,7 +80,7 @@ pub(crate) fn place(
     column: usize,
 ) -> usize
     requires laid { Laid description relation part }
-    requires column_value { inside description relation level row column ≡ true }
+    requires cell_inside { inside description relation level row column ≡ true }
     ensures { Placed description relation level row column result }
 {
     let start = part.start;

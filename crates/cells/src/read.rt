@@ -19,7 +19,7 @@ pub fn value_at(
     column: usize,
 ) -> u32
     requires sized { Sized description relation part (length values.now) }
-    requires column_value { inside description relation level row column ≡ true }
+    requires cell_inside { inside description relation level row column ≡ true }
     ensures { result ≡ value_at description values.now relation level row column }
 {
     let at = place(description, relation, part, level, row, column);
@@ -37,7 +37,7 @@ pub fn class_at(
     column: usize,
 ) -> u8
     requires sized { Sized description relation part (length classes.now) }
-    requires column_value { inside description relation level row column ≡ true }
+    requires cell_inside { inside description relation level row column ≡ true }
     ensures { result ≡ class_at description classes.now relation level row column }
 {
     let at = place(description, relation, part, level, row, column);
@@ -56,7 +56,7 @@ fn is_null(
     column: usize,
 ) -> bool
     requires lent { Lent description relation part (length values.now) (length classes.now) }
-    requires column_value { inside description relation level row column ≡ true }
+    requires cell_inside { inside description relation level row column ≡ true }
     ensures { result ≡ same ((state_of description (holding values.now classes.now) level).rows relation row column) nocell }
 {
     if value_at(values, description, relation, part, level, row, column) != 0 {

@@ -23,7 +23,7 @@ pub fn put(
     class: u8,
 )
     requires lent { Lent description relation part (length values.old) (length classes.old) }
-    requires column_value { inside description relation level row column ≡ true }
+    requires cell_inside { inside description relation level row column ≡ true }
     ensures { CellBecomes description relation level row column (cell value class) values.old classes.old values.new classes.new }
 {
     let at = place(description, relation, part, level, row, column);
@@ -43,7 +43,7 @@ pub fn put_value(
     number: u32,
 )
     requires sized { Sized description relation part (length values.old) }
-    requires column_value { inside description relation level row column ≡ true }
+    requires cell_inside { inside description relation level row column ≡ true }
     ensures { ValueBecomes description relation level row column number values.old values.new }
 {
     let at = place(description, relation, part, level, row, column);

@@ -41,7 +41,7 @@ pub fn listed(
     level: usize,
 ) -> bool
     requires naming { Naming description relation level (length values.now) }
-    requires list_value { each (λ k v. is_column description relation k) list.now ≡ true }
+    requires columns_listed { each (λ k v. is_column description relation k) list.now ≡ true }
     ensures { (classes : List ℕ) → result ≡ listed_names description level relation list.now (rows_of (state_of description (holding values.now classes))) }
 {
     let column = description.foreign[relation] as usize;

@@ -195,7 +195,7 @@ pub fn delete(
     level: usize,
 ) -> Answer
     requires standing { Standing description order relation level part values.old classes.old }
-    requires conditions_value { conditions_formed description relation conditions.now ≡ true }
+    requires formed_conditions { conditions_formed description relation conditions.now ≡ true }
     ensures { Deletes description level relation conditions.now values.old classes.old values.new classes.new result }
 {
     let chosen = chosen(

@@ -158,7 +158,7 @@ pub fn insert(
     level: usize,
 ) -> Answer
     requires standing { Standing description order relation level part values.old classes.old }
-    requires list_value { insert_formed description relation list.now ≡ true }
+    requires formed_list { insert_formed description relation list.now ≡ true }
     ensures { Inserts description level relation list.now values.old classes.old values.new classes.new result }
 {
     let row = lowest(values, classes, description, relation, part, level);

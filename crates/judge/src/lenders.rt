@@ -79,7 +79,7 @@ fn lent(
     c: u8,
 ) -> bool
     requires ready { Ready d values.now classes.now keys.now area × Asked d c key }
-    requires p_value { (p ≡ lender_of (rows_in d values.now classes.now) area key kc c) × (k < area.cols) }
+    requires from_lender { (p ≡ lender_of (rows_in d values.now classes.now) area key kc c) × (k < area.cols) }
     ensures { result ≡ same (cell v c) (lends (row_at d (rows_in d values.now classes.now) area.relation c key) (cell key kc) (suc k) c) }
 {
     if p == 65535 {

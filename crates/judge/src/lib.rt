@@ -18,7 +18,7 @@ use model::{Description, Verdict};
 // The tables are legal. The order and the ranges are laid out as words and the keys side by side; that no key stands twice at a level is tested
 // first, then each row and cell once.
 fn legal(description: Description, order: [[bool; 16]; 16], values: &[u32], classes: &[u8]) -> bool
-    requires description_value { (descriptions.sound description ≡ true) × (order ≡ order_of description.labels description.levels) }
+    requires sound_description { (descriptions.sound description ≡ true) × (order ≡ order_of description.labels description.levels) }
     requires values_len { (length values.now ≡ descriptions.total_of description) × (length classes.now ≡ descriptions.total_of description) }
     ensures { result ≡ judges.legal description (state_of description (holding values.now classes.now)) }
 {

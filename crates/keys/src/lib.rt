@@ -71,7 +71,7 @@ pub fn find(keys: &[u32], from: usize, rows: usize, key: u32) -> usize
 // The key of row `i` is 0, or no row before has it. A key whose place has no note is new, and is noted.
 fn fresh(keys: &mut [u32], from: usize, rows: usize, i: usize) -> bool
     requires rows_bound { (from + rows ≤ 8192) × (rows ≤ 64) × (i < rows) × (length keys.old ≡ 16384) }
-    requires from_value { (all_below i (first_of keys.old from) ≡ true) × Noted keys.old from i }
+    requires firsts { (all_below i (first_of keys.old from) ≡ true) × Noted keys.old from i }
     ensures { (result ≡ first_of keys.old from i) × Kept keys.old keys.new × Noted keys.new from (i + 1) }
 {
     let key = keys[from + i];
@@ -133,7 +133,7 @@ fn gather(values: &[u32], keys: &mut [u32], start: usize, n: usize, cols: usize)
 
 // The keys of every relation, each from where the relation's cells start in `values`.
 pub fn fill(values: &[u32], keys: &mut [u32], d: Description, starts: [usize; 9])
-    requires d_value { (sound d ≡ true) × Starting d starts }
+    requires sound_description { (sound d ≡ true) × Starting d starts }
     requires values_len { (length values.now ≡ total_of d) × (length keys.old ≡ 16384) }
     ensures { Keyed d values.now d.relations keys.new }
 {
@@ -148,7 +148,7 @@ pub fn fill(values: &[u32], keys: &mut [u32], d: Description, starts: [usize; 9]
 
 // No key stands twice at a level of any relation.
 pub fn relations(keys: &mut [u32], d: Description, starts: [usize; 9]) -> bool
-    requires d_value { (sound d ≡ true) × Starting d starts }
+    requires sound_description { (sound d ≡ true) × Starting d starts }
     requires keys_len { length keys.old ≡ 16384 }
     ensures { (result ≡ distinct_keys d keys.old) × Kept keys.old keys.new }
 {

@@ -73,7 +73,7 @@ fn news(bytes: &[u8], columns: usize) -> [u32; 9]
 // Its classes, by column.
 fn owners(bytes: &[u8], columns: usize) -> [u8; 9]
     requires columns_bound { columns ≤ 8 }
-    requires bytes_value { small_classes columns bytes.now ≡ true }
+    requires classes_small { small_classes columns bytes.now ≡ true }
     ensures { Filled columns (λ k. (row_read bytes.now k).class) result }
 {
     let mut owners = [255u8; 9];

@@ -26,7 +26,7 @@ fn carry(
     statement: Statement,
 ) -> Answer
     requires judged { Judged description order values.old classes.old }
-    requires owners_value { formed_of description (request statement list.now conditions.now shown.old owners.old) ≡ true }
+    requires well_formed { formed_of description (request statement list.now conditions.now shown.old owners.old) ≡ true }
     ensures { Carries description statement list conditions values classes shown owners result }
 {
     let level = statement.level as usize;

@@ -358,7 +358,7 @@ pub fn select(
     subject: usize,
 ) -> Answer
     requires standing { Standing description order relation subject part values.now classes.now }
-    requires list_value { (select_formed description list.now ≡ true) × (conditions_formed description relation conditions.now ≡ true) }
+    requires formed_list { (select_formed description list.now ≡ true) × (conditions_formed description relation conditions.now ≡ true) }
     ensures { Selects description subject relation list.now conditions.now values.now classes.now
         shown.old owners.old shown.new owners.new result }
 {

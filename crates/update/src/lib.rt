@@ -204,7 +204,7 @@ fn reference(
     count: u32,
 ) -> bool
     requires naming { Naming description relation level (length values.now) }
-    requires list_value { each_of (λ k v. is_column description relation k) list.now ≡ true }
+    requires columns_listed { each_of (λ k v. is_column description relation k) list.now ≡ true }
     ensures { (classes : List ℕ) → result ≡ (eqb count 0 || listed_names description level relation list.now (rows_of (state_of description (holding values.now classes)))) }
 {
     if count == 0 {
@@ -227,7 +227,7 @@ fn check(
     count: u32,
 ) -> Test
     requires standing { Standing description order relation level part values.now classes.now × (update_formed description relation list.now ≡ true) }
-    requires count_value { count ≡ met_rows description level relation conditions.now (sight description level values.now classes.now) }
+    requires counted { count ≡ met_rows description level relation conditions.now (sight description level values.now classes.now) }
     ensures { result ≡ ended (update_tests description level relation list.now conditions.now (sight description level values.now classes.now)) }
 {
     let columns = part.columns;
@@ -254,7 +254,7 @@ pub fn update(
     level: usize,
 ) -> Answer
     requires standing { Standing description order relation level part values.old classes.old }
-    requires list_value { (update_formed description relation list.now ≡ true) × (conditions_formed description relation conditions.now ≡ true) }
+    requires formed_list { (update_formed description relation list.now ≡ true) × (conditions_formed description relation conditions.now ≡ true) }
     ensures { Updates description level relation list.now conditions.now values.old classes.old values.new classes.new result }
 {
     let chosen = chosen(

@@ -79,7 +79,7 @@ fn raise(
     class: usize,
 ) -> Answer
     requires standing { Standing description order relation subject part values.old classes.old × Listing description relation subject key list.now }
-    requires class_value { over_of description subject class ≡ true }
+    requires class_seen { over_of description subject class ≡ true }
     ensures { Raises description subject relation (cell key class) list.now values.old classes.old values.new classes.new result }
 {
     let here = entity(
@@ -233,7 +233,7 @@ pub fn uplevel(
     class: usize,
 ) -> Answer
     requires standing { Standing description order relation subject part values.old classes.old }
-    requires list_value { uplevel_formed description relation key class list.now ≡ true }
+    requires formed_list { uplevel_formed description relation key class list.now ≡ true }
     ensures { Uplevels description subject relation key class list.now values.old classes.old values.new classes.new result }
 {
     let columns = part.columns;

@@ -92,7 +92,7 @@ pub(crate) fn check(
     here: usize,
 ) -> Test
     requires standing { Standing description order relation subject part values.now classes.now × Listing description relation subject key list.now }
-    requires class_value { (over_of description subject class ≡ true) × Row description relation (entity_place description values.now classes.now relation subject key class) here }
+    requires class_seen { (over_of description subject class ≡ true) × Row description relation (entity_place description values.now classes.now relation subject key class) here }
     ensures { result ≡ test_of (first_fault (later_tests description subject relation (cell key class) list.now (sight description subject values.now classes.now))) }
 {
     if taken(values, description, relation, part, subject, key, here) {

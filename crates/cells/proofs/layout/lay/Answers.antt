@@ -8,5 +8,5 @@ returns c = record {
   columns = c.columns.ensures.is;
   few = c.rows.ensures.few;
   narrow = c.columns.ensures.few;
-  total = (sound-says _ c.requires.description_value).total;
+  total = (sound-says _ c.requires.sound_description).total;
 }

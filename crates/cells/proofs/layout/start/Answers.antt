@@ -9,18 +9,18 @@ use Rattle.cells.proofs.layout.start.Goals as goal
 -- The invariant: what was added up is where the next relation begins.
 
 pub loop-before-init : goal.loop-before-init
-loop-before-init c = (omega arith, (of-true (relation-r _ _) c.requires.relation_value).0, start_first _)
+loop-before-init c = (omega arith, (of-true (relation-r _ _) c.requires.known_relation).0, start_first _)
 
 pub size-start-requires : goal.size-start-requires
-size-start-requires c = record { description_value = c.requires.description_value; relation_value = relation-before _ _ _ c.requires.relation_value c.loop-before.invariant.0 c.loop-before-test.true }
+size-start-requires c = record { sound_description = c.requires.sound_description; known_relation = relation-before _ _ _ c.requires.known_relation c.loop-before.invariant.0 c.loop-before-test.true }
 
 pub overflow_add-start : goal.overflow_add-start
 overflow_add-start c = let l = c.loop-before in
-    let h = start_small _ c.requires.description_value _ (relation-before _ _ _ c.requires.relation_value l.invariant.0 c.loop-before-test.true) in
+    let h = start_small _ c.requires.sound_description _ (relation-before _ _ _ c.requires.known_relation l.invariant.0 c.loop-before-test.true) in
     omega (arith, h, l.invariant.2, c.size-start.ensures.is)
 
 pub overflow_add-before : goal.overflow_add-before
-overflow_add-before c = omega (arith, relation-few _ c.requires.description_value _ c.requires.relation_value)
+overflow_add-before c = omega (arith, relation-few _ c.requires.sound_description _ c.requires.known_relation)
 
 pub loop-before-smaller : goal.loop-before-smaller
 loop-before-smaller c = omega arith

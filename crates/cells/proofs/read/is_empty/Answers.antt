@@ -17,7 +17,7 @@ overflow_add-column c = omega (arith, c.requires.lent.laid.narrow)
 pub is_null-requires : goal.is_null-requires
 is_null-requires c = record {
   lent = c.requires.lent;
-  column_value = inside-shown _ _ _ _ _ (record {
+  cell_inside = inside-shown _ _ _ _ _ (record {
     relation = c.requires.in_row.level.relation;
     level = c.requires.in_row.level.level;
     row = c.requires.in_row.row;

@@ -11,7 +11,7 @@ returns-then-rows-row c = let f = c.find-row.ensures in
 pub class_at-requires : goal.class_at-requires
 class_at-requires c = record {
   sized = record { laid = c.requires.lent.laid; size = c.requires.lent.classes };
-  column_value = inside-shown _ _ _ _ _ (record {
+  cell_inside = inside-shown _ _ _ _ _ (record {
     relation = c.requires.in_level.relation;
     level = c.requires.in_level.level;
     row = omega (arith, c.requires.lent.laid.rows, c.if-rows-row.false);

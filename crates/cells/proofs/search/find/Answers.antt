@@ -16,7 +16,7 @@ loop-row-init c = (search rules, first-start _)
 pub value_at-requires : goal.value_at-requires
 value_at-requires c = record {
   sized = c.requires.sized;
-  column_value = inside-shown _ _ _ _ _ (record {
+  cell_inside = inside-shown _ _ _ _ _ (record {
     relation = c.requires.in_level.relation;
     level = c.requires.in_level.level;
     row = omega (arith, c.requires.sized.laid.rows, c.loop-row-test.true);

@@ -3,4 +3,4 @@ use Rattle.cells.proofs.Cells.{state-put}
 use Rattle.cells.proofs.write.put.Goals as goal
 
 pub returns : goal.returns
-returns c = rw c.place-at.ensures.is (state-put _ _ _ _ _ _ _ _ (inside-says _ _ _ _ _ c.requires.column_value) c.requires.lent.values _ c.requires.lent.classes)
+returns c = rw c.place-at.ensures.is (state-put _ _ _ _ _ _ _ _ (inside-says _ _ _ _ _ c.requires.cell_inside) c.requires.lent.values _ c.requires.lent.classes)

@@ -25,7 +25,7 @@ bounds-owners-column c = omega (arith, c.requires.lent.laid.narrow, c.loop-colum
 pub put-requires : goal.put-requires
 put-requires c = let l = c.loop-column in record {
   lent = record { laid = c.requires.lent.laid; values = l.invariant.1 ∙ c.requires.lent.values; classes = l.invariant.2 ∙ c.requires.lent.classes };
-  column_value = inside-shown _ _ _ _ _ (record {
+  cell_inside = inside-shown _ _ _ _ _ (record {
     relation = c.requires.in_row.level.relation;
     level = c.requires.in_row.level.level;
     row = c.requires.in_row.row;
