@@ -3,7 +3,7 @@
 use Prim.Native.Nat.{ℕ}
 use mathlib.Core.Path.{◌≡◌, refl}
 use mathlib.Core.List.{List, [], ◌∷◌, ◌++◌}
-use lib.ListN.{take, drop, replicate}
+use lib.ListN.{take}
 use lib.Seq.{slice}
 use Rattle.records.specs.Bytes.{pair}
 use Rattle.input.specs.Front.{wanted, front, behind}
