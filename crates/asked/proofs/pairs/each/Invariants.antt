@@ -1,0 +1,15 @@
+use Prim.Native.Nat.{◌-◌, ◌≤◌}
+use mathlib.Core.Bool.{true}
+use mathlib.Core.Path.{◌≡◌}
+use Rattle.bounded.specs.Bounded.{all_below}
+use Rattle.model.specs.Listed.{column_at, second_at}
+use Rattle.asked.specs.Facts.{rule_of}
+use Rattle.asked.proofs.pairs.each.Given as goal
+
+abbrev pub invariant-loop-i : goal.invariant-loop-i
+invariant-loop-i l =
+    (l.i ≤ l.pairs) × (all_below l.i (λ j. rule_of l.description l.relation l.rule (column_at l.list j) (second_at l.list j)) ≡ true)
+
+abbrev pub decreases-loop-i : goal.decreases-loop-i
+decreases-loop-i l =
+    l.pairs - l.i
