@@ -150,7 +150,7 @@ fn relation(d: Description, order: [[bool; 16]; 16], relation: usize) -> bool
 // Each relation is sound.
 fn relations(d: Description, order: [[bool; 16]; 16]) -> bool
     requires { (order ≡ order_of d.labels d.levels) × (d.levels ≤ 16) × (d.relations ≤ 8) }
-    ensures* { λ r. ⌜ r ≡ all_below d.relations (λ r. relation_sound d (suc r)) ⌝ }
+    ensures { result ≡ all_below d.relations (λ r. relation_sound d (suc r)) }
 {
     let n = wide(d.relations);
     let mut r = 0;
