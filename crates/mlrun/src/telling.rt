@@ -1,4 +1,6 @@
 // What is told on standard error where the run can't go on.
+ghost use Rattle.std.specs.Prelude.{◌≤◌, length};
+
 use std::io::{Eprint, Error, Write};
 
 // How many bytes of an error's text there is room for. The system's longest text has 49, and its number stands behind it.

@@ -1,4 +1,7 @@
 // A read or a write that failed: whether it is to be made again.
+ghost use Rattle.std.specs.Prelude.{◌≡◌, ◌⊎◌, ◌↔◌, IsTrue};
+ghost use Rattle.std.specs.IoError.{error_kind};
+
 use std::io::{Error, ErrorKind};
 use std::thread;
 use std::time::{Clock, Duration};
@@ -12,7 +15,10 @@ fn pause(rt: &impl Clock) {
 }
 
 // Whether the call that failed so only had nothing to move yet, or was interrupted. Waits for a moment where it had nothing.
-pub(crate) fn again(rt: &impl Clock, error: &Error) -> bool {
+pub(crate) fn again(rt: &impl Clock, error: &Error) -> bool
+    ensures { IsTrue result
+        ↔ ((error_kind error.now ≡ ErrorKind.WouldBlock) ⊎ (error_kind error.now ≡ ErrorKind.Interrupted)) }
+{
     if error.kind() == ErrorKind::WouldBlock {
         pause(rt);
         return true;
