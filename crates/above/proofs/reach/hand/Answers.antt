@@ -1,0 +1,7 @@
+use mathlib.Core.Path.{refl}
+use Rattle.above.specs.Facts.{handed}
+use Rattle.above.proofs.reach.hand.Goals as goal
+
+pub returns : goal.returns
+unfolding handed
+returns c = refl

@@ -1,0 +1,31 @@
+use mathlib.Core.Path.{sym, ◌∙◌}
+use native.Mathlib.Omega.{arith}
+use Rattle.cells.proofs.Counts.{relation-few, foreign-is}
+use Rattle.change.proofs.Pairs.{names-unreferring, names-unlisted, names-listed}
+use Rattle.change.proofs.named.listed.Goals as goal
+
+pub offset_bounds-description-relation : goal.offset_bounds-description-relation
+offset_bounds-description-relation c = let k = c.requires.naming in
+    omega (arith, relation-few _ k.sound-is _ k.relation)
+
+pub bounds-description-relation : goal.bounds-description-relation
+bounds-description-relation c = let k = c.requires.naming in
+    omega (arith, relation-few _ k.sound-is _ k.relation)
+
+pub returns-then-column-eq0 : goal.returns-then-column-eq0
+returns-then-column-eq0 c = let k = c.requires.naming in
+    λ cs. names-unreferring _ _ _ _ _ c.requires.columns_listed (sym (foreign-is _ _ k.relation) ∙ c.if-column-eq0.true)
+
+pub returns-then-list-at : goal.returns-then-list-at
+returns-then-list-at c = let k = c.requires.naming in
+    λ cs. names-unlisted _ _ _ _ _ (foreign-is _ _ k.relation) c.find-at.ensures c.if-list-at.true
+
+pub names-requires : goal.names-requires
+names-requires c = let k = c.requires.naming in
+    record { naming = k; relation_nonzero = λ z. c.if-column-eq0.false (foreign-is _ _ k.relation ∙ z) }
+
+pub returns : goal.returns
+returns c = let k = c.requires.naming in
+    λ cs.
+    names-listed _ _ _ _ _ (foreign-is _ _ k.relation) c.find-at.ensures c.if-list-at.false
+    (c.names.ensures cs)

@@ -1,0 +1,25 @@
+use native.Mathlib.Omega.{arith}
+use Rattle.cells.proofs.Counts.{relation-few, in-level, refers-is, target-relation}
+use Rattle.change.proofs.Sought.{names-null, names-sought}
+use Rattle.change.proofs.named.names.Goals as goal
+
+pub returns-then-key-eq0 : goal.returns-then-key-eq0
+returns-then-key-eq0 c = λ cs. names-null _ _ _ _ _ _ c.if-key-eq0.true
+
+pub offset_bounds-description-relation : goal.offset_bounds-description-relation
+offset_bounds-description-relation c = omega (arith, relation-few _ c.requires.naming.sound-is _ c.requires.naming.relation)
+
+pub bounds-description-relation : goal.bounds-description-relation
+bounds-description-relation c = omega (arith, relation-few _ c.requires.naming.sound-is _ c.requires.naming.relation)
+
+pub lay-part-requires : goal.lay-part-requires
+lay-part-requires c = record { sound_description = c.requires.naming.sound-is; known_relation = target-relation _ c.requires.naming.sound-is _ c.requires.naming.relation c.requires.relation_nonzero }
+
+pub find-requires : goal.find-requires
+find-requires c = let k = c.requires.naming in record { sized = record { laid = c.lay-part.ensures; size = k.long }; in_level = in-level _ k.sound-is _ (target-relation _ k.sound-is _ k.relation c.requires.relation_nonzero) _ k.level }
+
+pub returns : goal.returns
+returns c = let k = c.requires.naming in
+    λ cs.
+    names-sought _ _ cs _ _ _ c.if-key-eq0.false (refers-is _ _ k.relation) c.find.ensures.is
+    c.lay-part.ensures.rows
