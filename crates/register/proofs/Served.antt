@@ -10,7 +10,6 @@ use borrow.Author.Tests.{ltb-true}
 use Rattle.bounded.proofs.Cases.{and_left, and_right}
 use Rattle.bounded.proofs.Reflection.{of-true, bool-r, and_r, eqb-r}
 use Rattle.model.specs.declared.Description.{Description}
-use Rattle.model.specs.declared.What.{What}
 use Rattle.model.specs.declared.What.TheVariants as Whats
 use Rattle.model.specs.Description.{is_level, is_relation, column_count, total_of}
 use Rattle.model.specs.Buffers.{holding, fitting}

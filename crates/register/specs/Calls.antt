@@ -2,7 +2,7 @@
 -- Assumes nothing: these are definitions and statements.
 use Rattle.std.specs.Prelude.{◌≡◌, Bool, ◌&&◌, List, ℕ}
 use Rattle.std.proofs.Math.Option.{none, some}
-use Rattle.std.specs.Borrow.{Bor}
+use Rattle.std.specs.Borrow.{Bor, MutBor}
 use denote.Triple.Both.{Both}
 use Rattle.bounded.specs.Lists.{write_at}
 use Rattle.model.specs.declared.Description.{Description}
@@ -33,9 +33,9 @@ outcome answer values classes shown owners =
 
 -- ---- what a call promises
 
--- a slice that a call is lent, as it begins and as it ends
+-- a slice that a call is lent to change, as it begins and as it ends
 abbrev pub Slice : Type 0
-Slice = Both (Bor (List ℕ)) (Bor (List ℕ))
+Slice = Both (MutBor (List ℕ)) (MutBor (List ℕ))
 
 abbrev pub entering : Slice → List ℕ
 entering s = s.entry.now
@@ -43,13 +43,20 @@ entering s = s.entry.now
 abbrev pub leaving : Slice → List ℕ
 leaving s = s.exit.now
 
+-- a slice that a call is lent to read
+abbrev pub Shared : Type 0
+Shared = Both (Bor (List ℕ)) (Bor (List ℕ))
+
+abbrev pub reading : Shared → List ℕ
+reading s = s.entry.now
+
 -- one call does what the model's `run` says: the answer, and every buffer as the call ends, are those of the statement, its two lists and
 -- the buffers as the call begins
-abbrev pub Runs : Description → Statement → Slice → Slice → Slice → Slice → Slice → Slice → Answer → Type 0
+abbrev pub Runs : Description → Statement → Shared → Shared → Slice → Slice → Slice → Slice → Answer → Type 0
 Runs d statement list conditions values classes shown owners answer =
     outcome answer (leaving values) (leaving classes) (leaving shown) (leaving owners)
     ≡ run d (lending (holding (entering values) (entering classes)))
-    (request statement (entering list) (entering conditions) (entering shown) (entering owners))
+    (request statement (reading list) (reading conditions) (entering shown) (entering owners))
 
 -- a statement that is well formed is carried out on the tables' cells: the first of its own tests that fails is answered and every buffer
 -- stays; where none fails, its count is answered, the cells are what it leaves, and the rows that it shows are written
@@ -63,7 +70,7 @@ pub data Carried (d : Description) (q : Request) (vs cs : List ℕ) (a : Answer)
       → owners' ≡ write_at 0 (owners_shown (shown_as d q q.statement.what (sight d (subject q) vs cs))) q.owners
       → Carried d q vs cs a vs' cs' shown' owners'
 
-abbrev pub Carries : Description → Statement → Slice → Slice → Slice → Slice → Slice → Slice → Answer → Type 0
+abbrev pub Carries : Description → Statement → Shared → Shared → Slice → Slice → Slice → Slice → Answer → Type 0
 Carries d statement list conditions values classes shown owners answer =
-    Carried d (request statement (entering list) (entering conditions) (entering shown) (entering owners)) (entering values) (entering classes) answer
+    Carried d (request statement (reading list) (reading conditions) (entering shown) (entering owners)) (entering values) (entering classes) answer
     (leaving values) (leaving classes) (leaving shown) (leaving owners)

@@ -12,7 +12,6 @@ use Rattle.model.specs.declared.Fault.{Fault}
 use Rattle.model.specs.declared.Answer.{Answer}
 use Rattle.model.specs.declared.Answer.TheVariants as Answers
 use Rattle.model.specs.Select.{Shown}
-use Rattle.model.specs.Run.{first_fault}
 use Rattle.change.specs.Facts.{Showed, refuses, shows}
 use Rattle.select.proofs.formed.Reads as formed
 use Rattle.select.proofs.select.Reads as select

@@ -9,7 +9,7 @@ use Rattle.model.specs.declared.Answer.{Answer}
 use Rattle.model.specs.declared.Answer.TheVariants as Answers
 use Rattle.model.specs.Description.{height_at, column_count}
 use Rattle.model.specs.Tables.{Row, State}
-use Rattle.model.specs.Select.{Shown, asked, found_at, found, values_shown, owners_shown}
+use Rattle.model.specs.Select.{Shown, asked, found_at, values_shown, owners_shown}
 use Rattle.cells.specs.Changed.{value_at, class_at}
 use Rattle.select.specs.declared.At.{At}
 use Rattle.select.specs.declared.Levels.{Levels}

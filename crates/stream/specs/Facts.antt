@@ -7,7 +7,7 @@ use Rattle.model.specs.Buffers.{holding}
 use Rattle.model.specs.Ledger.{lending}
 use Rattle.model.specs.Run.{run}
 use Rattle.lines.specs.Written.{Wrote}
-use Rattle.register.specs.Calls.{request, Slice, entering, leaving}
+use Rattle.register.specs.Calls.{request, Slice, Shared, entering, leaving, reading}
 use Rattle.stream.specs.declared.Stepped.{Stepped}
 use Rattle.stream.specs.Step.{Held, Turn, lent, answered}
 
@@ -30,6 +30,6 @@ abbrev pub TurnsAny : (Held → Turn) → ℕ → Description → Slice → Step
 TurnsAny turn last d text r = (values classes : List ℕ) → Took (turn (holds last d values classes)) (entering text) values classes (leaving text) r
 
 -- the turn of a statement with its lists and output buffers: the register's answer
-abbrev pub answering : Statement → ℕ → Slice → Slice → Slice → Slice → Held → Turn
+abbrev pub answering : Statement → ℕ → Shared → Shared → Slice → Slice → Held → Turn
 answering statement kind list conditions shown owners h =
-    answered h kind statement (run h.description (lent h) (request statement (entering list) (entering conditions) (entering shown) (entering owners)))
+    answered h kind statement (run h.description (lent h) (request statement (reading list) (reading conditions) (entering shown) (entering owners)))

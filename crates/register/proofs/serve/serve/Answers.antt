@@ -1,0 +1,17 @@
+use Rattle.register.proofs.Outcomes.{malformed-out, carried-out}
+use Rattle.register.proofs.Served.{formed-is, still-fits}
+use Rattle.register.proofs.serve.serve.Goals as goal
+
+pub statement-requires : goal.statement-requires
+statement-requires c = c.requires.ordering
+
+pub returns-then-not-statement : goal.returns-then-not-statement
+returns-then-not-statement c = let m = formed-is _ _ c.statement.ensures c.if-not-statement.true in
+    malformed-out _ _ _ _ _ c.requires m
+
+pub carry-requires : goal.carry-requires
+carry-requires c = record { judged = c.requires; well_formed = formed-is _ _ c.statement.ensures c.if-not-statement.false }
+
+pub returns : goal.returns
+returns c = let m = formed-is _ _ c.statement.ensures c.if-not-statement.false in
+    carried-out _ _ _ _ _ c.requires m (still-fits _ _ _ _ _ c.requires.fits c.carry.auto.values c.carry.auto.classes) c.carry.ensures

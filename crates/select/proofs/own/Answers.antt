@@ -1,0 +1,54 @@
+use mathlib.Core.Path.{refl, ◌∙◌}
+use native.Mathlib.Numerals.{add-one}
+use native.Mathlib.Omega.{arith}
+use lib.ListN.{length-set}
+use Rattle.bounded.proofs.Lists.{numbers-start, numbers_more}
+use Rattle.model.proofs.Border.{inside-shown}
+use Rattle.select.proofs.Shown.{owners-end}
+use Rattle.select.proofs.own.Goals as goal
+
+-- The invariant: the classes of the columns passed are written.
+
+pub loop-column-init : goal.loop-column-init
+loop-column-init c = (omega arith, refl, numbers-start _ _ _)
+
+pub overflow_add-column : goal.overflow_add-column
+overflow_add-column c = omega (arith, c.requires.sized.0.laid.narrow)
+
+pub class_at-requires : goal.class_at-requires
+class_at-requires c = record {
+  sized = c.requires.sized.0;
+  cell_inside = inside-shown _ _ _ _ _ (record {
+    relation = c.requires.sized.1.level.relation;
+    level = c.requires.sized.1.level.level;
+    row = c.requires.sized.1.row;
+    least = omega arith;
+    column = omega (arith, c.requires.sized.0.laid.columns, c.loop-column-test.true);
+  });
+}
+
+pub overflow_add-owners : goal.overflow_add-owners
+overflow_add-owners c = omega (arith, c.requires.sized, c.requires.level_bound)
+
+pub bounds-owners-at : goal.bounds-owners-at
+bounds-owners-at c = omega (arith, c.requires.sized, c.requires.level_bound)
+
+pub overflow_add-column-in-loop-column : goal.overflow_add-column-in-loop-column
+overflow_add-column-in-loop-column c = omega arith
+
+pub loop-column-smaller : goal.loop-column-smaller
+loop-column-smaller c = omega arith
+
+pub loop-column-preserved : goal.loop-column-preserved
+loop-column-preserved c = let l = c.loop-column in (
+  omega arith,
+  simp length-set l.invariant.1,
+  numbers_more _ _ _ _ l.invariant.2 (omega (arith, c.requires.level_bound, c.requires.sized.0.laid.columns)) (c.class_at.ensures ∙ rw add-one),
+)
+
+pub shape_of-owners : goal.shape_of-owners
+shape_of-owners c = simp length-set c.loop-column.invariant.1
+
+pub returns : goal.returns
+returns c = let l = c.loop-column in
+    owners-end _ _ _ _ _ _ _ _ _ l.invariant.2 l.invariant.0 c.loop-column-test.false c.requires.sized.0.laid.columns c.requires.level_bound.1

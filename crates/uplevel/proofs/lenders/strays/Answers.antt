@@ -1,0 +1,34 @@
+use mathlib.Core.Path.{◌∙◌}
+use native.Mathlib.Omega.{arith}
+use Rattle.cells.proofs.Counts.{relation-few, foreign-is, refers-is, target-relation, in-level}
+use Rattle.uplevel.proofs.Borrowing.{strays-other, strays-null, strays-named}
+use Rattle.uplevel.proofs.lenders.strays.Goals as goal
+
+pub offset_bounds-description-relation : goal.offset_bounds-description-relation
+offset_bounds-description-relation c = omega (arith, relation-few _ c.requires.reaching.sound-is _ c.requires.reaching.relation)
+
+pub bounds-description-relation : goal.bounds-description-relation
+bounds-description-relation c = omega (arith, relation-few _ c.requires.reaching.sound-is _ c.requires.reaching.relation)
+
+pub returns-then-column-description : goal.returns-then-column-description
+returns-then-column-description c = strays-other _ _ _ _ _ _ _ (foreign-is _ _ c.requires.reaching.relation) c.if-column-description.true
+
+pub returns-then-value-eq0 : goal.returns-then-value-eq0
+returns-then-value-eq0 c = strays-null _ _ _ _ _ _ _ (foreign-is _ _ c.requires.reaching.relation) c.if-column-description.false c.if-value-eq0.true
+
+pub offset_bounds-description-relation-2 : goal.offset_bounds-description-relation-2
+offset_bounds-description-relation-2 c = omega (arith, relation-few _ c.requires.reaching.sound-is _ c.requires.reaching.relation)
+
+pub bounds-description-relation-2 : goal.bounds-description-relation-2
+bounds-description-relation-2 c = omega (arith, relation-few _ c.requires.reaching.sound-is _ c.requires.reaching.relation)
+
+pub lay-part-requires : goal.lay-part-requires
+lay-part-requires c = record { sound_description = c.requires.reaching.sound-is; known_relation = target-relation _ c.requires.reaching.sound-is _ c.requires.reaching.relation (λ z. c.requires.column_nonzero (c.if-column-description.false ∙ foreign-is _ _ c.requires.reaching.relation ∙ z)) }
+
+pub agree-requires : goal.agree-requires
+agree-requires c = let q = c.requires.reaching in
+    let t = target-relation _ q.sound-is _ q.relation (λ z. c.requires.column_nonzero (c.if-column-description.false ∙ foreign-is _ _ q.relation ∙ z)) in record { lent = (record { laid = c.lay-part.ensures; values = q.values; classes = q.classes }, c.if-value-eq0.false); in_level = (in-level _ q.sound-is _ t _ q.subject, in-level _ q.sound-is _ t _ q.level) }
+
+pub returns : goal.returns
+returns c = let q = c.requires.reaching in
+    strays-named _ _ _ _ _ _ _ (foreign-is _ _ q.relation) c.if-column-description.false c.if-value-eq0.false (refers-is _ _ q.relation) c.agree.ensures
