@@ -1,5 +1,6 @@
 -- A reference that is taken above: where it is lost, way by way, and the plan that is left of it.
 -- Assumes nothing.
+use Rattle.std.specs.Prelude.{if◌then◌else◌}
 use Prim.Native.Nat.{ℕ, ◌<◌}
 use mathlib.Core.Path.{◌≡◌, sym, ap, ap₂, ◌∙◌}
 use mathlib.Core.Bool.{Bool, true, false, not, ◌&&◌}
@@ -9,7 +10,6 @@ use lib.Dec.{eqb}
 use lib.ListN.{get_or}
 use lib.Seq.{get_or-set_same, get_or-set_other}
 use borrow.Author.Tests.{eq-eqb, ne_eqb, eqb-true, eqb-false}
-use Rattle.bounded.specs.Tests.{if◌then◌else◌}
 use Rattle.bounded.proofs.Cases.{cases}
 use Rattle.model.specs.declared.Description.{Description}
 use Rattle.model.specs.Description.{foreign_of, refers_of, is_relation, sound}

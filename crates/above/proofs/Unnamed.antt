@@ -1,5 +1,6 @@
 -- References to rows that are emptied: the row of a key in the tables, what a row becomes, and that what it is told by stays.
 -- Assumes nothing.
+use Rattle.std.specs.Prelude.{if◌then◌else◌}
 use Prim.Native.Nat.{ℕ, ◌+◌, ◌≤◌, ◌<◌}
 use mathlib.Core.Path.{◌≡◌, refl, sym, ap, ◌∙◌, fun_ext}
 use mathlib.Core.Bool.{Bool, true, false, not, ◌&&◌}
@@ -9,7 +10,6 @@ use native.Mathlib.Omega.{arith}
 use lib.Dec.{eqb}
 use lib.ListN.{get_or}
 use borrow.Author.Tests.{eq-eqb, ne_eqb, eqb-true}
-use Rattle.bounded.specs.Tests.{if◌then◌else◌}
 use Rattle.bounded.proofs.Cases.{cases, and-false-right}
 use Rattle.bounded.proofs.Reflection.{is_true, of-false, eqb-r}
 use Rattle.model.specs.declared.Description.{Description}

@@ -1,8 +1,7 @@
 -- What a plan leaves in the rows above a subject's level.
 -- Assumes nothing: these are definitions and statements.
-use Rattle.std.specs.Prelude.{◌≡◌, Bool, true, false, not, ◌&&◌, ◌≢◌, List, ℕ, ◌≤◌, ◌<◌, eqb, ltb, length, get_or, set}
+use Rattle.std.specs.Prelude.{◌≡◌, Bool, true, false, not, ◌&&◌, ◌≢◌, List, ℕ, ◌≤◌, ◌<◌, eqb, ltb, length, get_or, set, if◌then◌else◌}
 use Rattle.std.proofs.Math.Option.{some}
-use Rattle.bounded.specs.Tests.{if◌then◌else◌}
 use Rattle.level.specs.Order.{order_of}
 use Rattle.model.specs.declared.Description.{Description}
 use Rattle.model.specs.Description.{between, is_relation, row_count, column_count, foreign_of, refers_of, total_of, sound}

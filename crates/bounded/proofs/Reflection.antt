@@ -1,12 +1,13 @@
 -- What a test that computes says. The laws mirror a test's syntax, so that its meaning is read off; a conditional is taken apart by its test.
 -- Assumes nothing.
+use Rattle.std.specs.Prelude.{if◌then◌else◌}
 use mathlib.Core.Path.{◌≡◌, refl, sym, ◌∙◌, subst}
 use mathlib.Core.Bool.{Bool, true, false, not, ◌&&◌, ◌||◌, false≢true, true≢false}
 use mathlib.Core.Logic.{◌⊎◌, inl, inr, ⊎_elim}
 use Prim.Native.Nat.{ℕ, ◌≤◌, ◌<◌}
 use lib.Dec.{T, eqb, ltb, leb, eqb→eq, eqb_refl, ltb→lt, nltb→le, leb→le, nleb→lt}
 use native.Mathlib.Nat.{not-le_of_lt}
-use Rattle.bounded.specs.Tests.{if◌then◌else◌, Reflects, holds, fails}
+use Rattle.bounded.specs.Tests.{Reflects, holds, fails}
 use Rattle.bounded.specs.Bounded.{all_below, any_below}
 use Rattle.bounded.proofs.All.{all-at, all_of}
 use Rattle.bounded.proofs.Any.{Any, some-does, none-does, any-cases}

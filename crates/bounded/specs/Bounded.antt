@@ -1,7 +1,6 @@
 -- Searches, quantifiers, counts, sums and folds over the numbers below a bound. Each goes up to the bound as a loop does, its last turn last.
 -- Assumes nothing: these are definitions.
-use Rattle.std.specs.Prelude.{ℕ, zero, suc, ◌+◌, Bool, true, false, ◌&&◌, ◌||◌, ltb}
-use Rattle.bounded.specs.Tests.{if◌then◌else◌}
+use Rattle.std.specs.Prelude.{ℕ, zero, suc, ◌+◌, Bool, true, false, ◌&&◌, ◌||◌, ltb, if◌then◌else◌}
 
 -- the least number below n at which p holds; n where there is none
 unfoldable pub first_below : ℕ → (ℕ → Bool) → ℕ

@@ -1,5 +1,6 @@
 -- A number stored at a cell's place changes that cell and no other.
 -- Assumes nothing.
+use Rattle.std.specs.Prelude.{if◌then◌else◌}
 use Prim.Native.Nat.{ℕ, ◌≤◌, ◌<◌}
 use mathlib.Core.Path.{◌≡◌, refl, sym, ap, ap₂, ◌∙◌, fun_ext}
 use mathlib.Core.Bool.{Bool, true, false, ◌&&◌}
@@ -8,7 +9,7 @@ use native.Mathlib.Omega.{arith}
 use lib.Dec.{eqb}
 use lib.ListN.{length, get_or, set}
 use lib.Seq.{get_or-set_same, get_or-set_other}
-use Rattle.bounded.specs.Tests.{if◌then◌else◌, Reflects}
+use Rattle.bounded.specs.Tests.{Reflects}
 use Rattle.bounded.proofs.Cases.{cases}
 use Rattle.bounded.proofs.Reflection.{of-true, of-false, and_r, eqb-r, reflects-as}
 use Rattle.model.specs.declared.Description.{Description}

@@ -1,5 +1,6 @@
 -- A row written cell after cell, and what the rows of a level are to a search.
 -- Assumes nothing.
+use Rattle.std.specs.Prelude.{if◌then◌else◌}
 use Prim.Native.Nat.{ℕ, zero, suc, ◌+◌, ◌≤◌, ◌<◌}
 use mathlib.Core.Path.{◌≡◌, refl, sym, ap, ◌∙◌, fun_ext}
 use mathlib.Core.Bool.{Bool, true, false, ◌&&◌}
@@ -7,7 +8,6 @@ use mathlib.Core.List.{List, [], ◌∷◌}
 use native.Mathlib.Omega.{arith}
 use lib.Dec.{eqb, ltb}
 use borrow.Author.Tests.{eq-eqb, ne_eqb, lt-ltb, le-ltb, eqb-true}
-use Rattle.bounded.specs.Tests.{if◌then◌else◌}
 use Rattle.bounded.proofs.Cases.{cases, order}
 use Rattle.bounded.proofs.Reflection.{is_true, is_false, of-true, of-false}
 use Rattle.model.specs.declared.Description.{Description}

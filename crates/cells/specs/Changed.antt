@@ -1,7 +1,6 @@
 -- Tables with one thing changed, and what a buffer holds for a cell.
 -- Assumes nothing: these are definitions.
-use Rattle.std.specs.Prelude.{ℕ, ◌&&◌, List, eqb, ltb, get_or}
-use Rattle.bounded.specs.Tests.{if◌then◌else◌}
+use Rattle.std.specs.Prelude.{ℕ, ◌&&◌, List, eqb, ltb, get_or, if◌then◌else◌}
 use Rattle.bounded.specs.Bounded.{first_below}
 use Rattle.model.specs.declared.Description.{Description}
 use Rattle.model.specs.Description.{between, row_count}

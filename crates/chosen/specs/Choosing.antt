@@ -1,8 +1,7 @@
 -- What UPDATE and DELETE do, where the rows that meet the conditions are chosen.
 -- Assumes nothing: these are definitions and statements.
-use Rattle.std.specs.Prelude.{◌≡◌, Bool, true, false, not, ◌&&◌, ◌≢◌, List, ℕ, suc, ◌≤◌, ◌<◌, eqb, ltb, length, get_or}
+use Rattle.std.specs.Prelude.{◌≡◌, Bool, true, false, not, ◌&&◌, ◌≢◌, List, ℕ, suc, ◌≤◌, ◌<◌, eqb, ltb, length, get_or, if◌then◌else◌}
 use Rattle.std.proofs.Math.Option.{some}
-use Rattle.bounded.specs.Tests.{if◌then◌else◌}
 use Rattle.bounded.specs.Bounded.{any_below}
 use Rattle.model.specs.declared.Description.{Description}
 use Rattle.model.specs.Description.{row_count, column_count, foreign_of, refers_of}

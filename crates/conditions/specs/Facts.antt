@@ -1,7 +1,6 @@
 -- What the functions on conditions know and promise.
 -- Assumes nothing: these are definitions and statements.
-use Rattle.std.specs.Prelude.{◌≡◌, Bool, true, false, not, ◌&&◌, List, ℕ, ◌≤◌, ◌<◌, eqb, length, get_or}
-use Rattle.bounded.specs.Tests.{if◌then◌else◌}
+use Rattle.std.specs.Prelude.{◌≡◌, Bool, true, false, not, ◌&&◌, List, ℕ, ◌≤◌, ◌<◌, eqb, length, get_or, if◌then◌else◌}
 use Rattle.bounded.specs.Bounded.{count_below}
 use Rattle.model.specs.declared.Description.{Description}
 use Rattle.model.specs.Description.{over, row_count, column_count}

@@ -1,5 +1,6 @@
 -- DELETE: the plan that is made for it, its test, and the tables that it leaves.
 -- Assumes nothing.
+use Rattle.std.specs.Prelude.{if◌then◌else◌}
 use Prim.Native.Nat.{ℕ, suc, ◌<◌}
 use mathlib.Core.Path.{◌≡◌, refl, sym, ap, ap₂, ◌∙◌, fun_ext}
 use mathlib.Core.Bool.{Bool, true, false, not, ◌&&◌, and_assoc}
@@ -9,7 +10,6 @@ use native.Mathlib.Omega.{arith}
 use lib.Dec.{eqb, ltb}
 use lib.ListN.{length, get_or, replicate, get_or-replicate, get_or-eq_default}
 use borrow.Author.Tests.{eqb-true, ltb-true, ltb-false}
-use Rattle.bounded.specs.Tests.{if◌then◌else◌}
 use Rattle.bounded.specs.Bounded.{any_below}
 use Rattle.bounded.proofs.Any.{any-cong}
 use Rattle.bounded.proofs.Cases.{cases}

@@ -1,7 +1,6 @@
 -- The record at the front of what was read (01, "mlrun").
 -- Assumes nothing: these are definitions.
-use Rattle.std.specs.Prelude.{ℕ, ◌+◌, List, ltb, length, take, drop}
-use Rattle.bounded.specs.Tests.{if◌then◌else◌}
+use Rattle.std.specs.Prelude.{ℕ, ◌+◌, List, ltb, length, take, drop, if◌then◌else◌}
 use Rattle.records.specs.Bytes.{pair}
 
 -- "two-byte body length, two-byte kind, body": how many bytes are needed to judge the record, those that its header says; its header alone

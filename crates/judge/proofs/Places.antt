@@ -1,5 +1,6 @@
 -- Where a relation's rows and keys stand, and what the row of an entity at a level lends.
 -- Assumes nothing.
+use Rattle.std.specs.Prelude.{if◌then◌else◌}
 use mathlib.Core.Path.{◌≡◌, refl, sym, ap, subst, ◌∙◌}
 use mathlib.Core.Logic.{◌≢◌, ◌⊎◌, inl, inr}
 use mathlib.Core.List.{List}
@@ -10,7 +11,6 @@ use lib.Dec.{eqb, ltb}
 use lib.ListN.{get_or, set, length-set, replicate, length-replicate, get_or-replicate}
 use lib.Seq.{get_or-set_same, get_or-set_other}
 use borrow.Author.Tests.{lt-ltb, le-ltb, ltb-true, ltb-false, eq-eqb, ne_eqb, eqb-true, eqb-false}
-use Rattle.bounded.specs.Tests.{if◌then◌else◌}
 use Rattle.bounded.specs.Bounded.{first_below}
 use Rattle.bounded.proofs.Cases.{cases}
 use Rattle.bounded.proofs.First.{first_holds, first_cong}

@@ -1,7 +1,6 @@
 -- What the judge's inner functions know of the numbers and slices that they are given.
 -- Assumes nothing: these are definitions and statements.
-use Rattle.std.specs.Prelude.{◌≡◌, Bool, true, ◌&&◌, ◌||◌, ◌≢◌, ◌⊎◌, List, ℕ, suc, ◌+◌, ◌*◌, ◌≤◌, ◌<◌, eqb, ltb, length, get_or}
-use Rattle.bounded.specs.Tests.{if◌then◌else◌}
+use Rattle.std.specs.Prelude.{◌≡◌, Bool, true, ◌&&◌, ◌||◌, ◌≢◌, ◌⊎◌, List, ℕ, suc, ◌+◌, ◌*◌, ◌≤◌, ◌<◌, eqb, ltb, length, get_or, if◌then◌else◌}
 use Rattle.bounded.specs.Bounded.{all_below}
 use Rattle.model.specs.declared.Description.{Description}
 use Rattle.model.specs.Description.{over, column_count, row_count, foreign_of, refers_of, sound}

@@ -1,5 +1,6 @@
 -- A search that adds up the numbers of the rows that were met: as the key stands at most once, the sum is the row that has it.
 -- Assumes nothing.
+use Rattle.std.specs.Prelude.{if◌then◌else◌}
 use mathlib.Core.Path.{◌≡◌, refl, sym, ◌∙◌}
 use mathlib.Core.Bool.{Bool, true, false}
 use mathlib.Core.Logic.{◌⊎◌, inl, inr, ⊎_elim}
@@ -9,7 +10,6 @@ use native.Mathlib.Numerals.{add-one}
 use native.Mathlib.Omega.{arith}
 use lib.Dec.{ltb}
 use borrow.Author.Tests.{lt-ltb, ltb-true, ltb-false}
-use Rattle.bounded.specs.Tests.{if◌then◌else◌}
 use Rattle.bounded.specs.Bounded.{first_below}
 use Rattle.bounded.proofs.Cases.{cases, clash}
 use Rattle.bounded.proofs.First.{first_more, first-here, first-start, first_holds, first-le}

@@ -5,8 +5,7 @@
 pub mod areas;
 pub mod words;
 
-ghost use Rattle.std.specs.Prelude.{◌≡◌, true, ◌+◌, ◌*◌, ◌<◌, ◌≤◌, eqb, length};
-ghost use Rattle.bounded.specs.Tests.{if◌then◌else◌};
+ghost use Rattle.std.specs.Prelude.{◌≡◌, true, ◌+◌, ◌*◌, ◌<◌, ◌≤◌, eqb, length, if◌then◌else◌};
 ghost use Rattle.bounded.specs.Bounded.{first_below, all_below};
 ghost use Rattle.model.specs.Description.{total_of, sound};
 ghost use Rattle.keys.specs.Facts.{has_key, Once, first_of, slot_of, Noted, Kept, Gathered, Starting, Keyed, distinct_keys};

@@ -1,7 +1,6 @@
 -- A number as text, in ASCII bytes.
 -- Assumes nothing: these are definitions.
-use Rattle.std.specs.Prelude.{ℕ, zero, suc, ◌+◌, ◌/◌, ◌%◌, List, [], ◌∷◌, ◌++◌, ltb}
-use Rattle.bounded.specs.Tests.{if◌then◌else◌}
+use Rattle.std.specs.Prelude.{ℕ, zero, suc, ◌+◌, ◌/◌, ◌%◌, List, [], ◌∷◌, ◌++◌, ltb, if◌then◌else◌}
 
 -- the byte of a digit
 unfoldable pub digit : ℕ → ℕ

@@ -1,12 +1,12 @@
 -- Record after record, as `mlrun` takes them off what is left of its input, is the stream of `stream`'s definition: a step on the record at the
 -- front, then the same with what stands behind it.
 -- Assumes nothing.
-use mathlib.Core.Path.{◌≡◌, refl, ap}
+use Rattle.std.specs.Prelude.{if◌then◌else◌}
+use mathlib.Core.Path.{◌≡◌}
 use mathlib.Core.Bool.{false}
 use mathlib.Core.List.{List, [], ◌∷◌, ◌++◌}
 use Prim.Native.Nat.{ℕ, suc}
-use lib.ListN.{take, drop}
-use Rattle.bounded.specs.Tests.{if◌then◌else◌}
+use lib.ListN.{take}
 use Rattle.records.specs.Record.{size_of, whole, kind_after}
 use Rattle.input.specs.Front.{wanted, front, behind}
 use Rattle.input.proofs.Sized.{front-cases}

@@ -3,6 +3,7 @@
 #![tactic(auto)]
 
 mod reading;
+mod telling;
 mod waiting;
 mod writing;
 
@@ -13,6 +14,8 @@ use input::front;
 use model::Description;
 use reading::{fill, size};
 use records::descriptions::nothing;
+use std::io::{Eprint, Read, Write};
+use std::time::Clock;
 use stream::step;
 use writing::{drain, left, put};
 
@@ -86,6 +89,9 @@ fn stopped(state: State) -> State
 
 // The next record, if the input has one more. Where what is waiting can't be written, none is waited for.
 fn next(
+    rt: &(impl Clock + Eprint),
+    stdin: &mut impl Read,
+    stdout: &mut impl Write,
     input: &mut [u8],
     values: &mut [u32],
     classes: &mut [u8],
@@ -100,10 +106,10 @@ fn next(
     let to = state.to;
     let ready = front::ready(&input[from..to]);
     let waiting = left(state.waiting, ready);
-    if !drain(output, state.waiting, waiting) {
+    if !drain(rt, stdout, output, state.waiting, waiting) {
         return stopped(state);
     }
-    let window = fill(input, from, to, ready);
+    let window = fill(rt, stdin, input, from, to, ready);
     if !window.good {
         return stopped(state);
     }
@@ -133,7 +139,15 @@ fn next(
 }
 
 // Record after record, until one is refused or the input ends. The buffers are longer than a record, and than what a step prints.
-fn run(input: &mut [u8], values: &mut [u32], classes: &mut [u8], output: &mut [u8])
+fn run(
+    rt: &(impl Clock + Eprint),
+    stdin: &mut impl Read,
+    stdout: &mut impl Write,
+    input: &mut [u8],
+    values: &mut [u32],
+    classes: &mut [u8],
+    output: &mut [u8],
+)
     requires { (1028 ≤ length input.old) × (131072 ≤ length output.old) }
 {
     let description = nothing();
@@ -150,17 +164,29 @@ fn run(input: &mut [u8], values: &mut [u32], classes: &mut [u8], output: &mut [u
         if !state.goes {
             break;
         }
-        state = next(input, values, classes, output, state, number);
+        state = next(
+            rt, stdin, stdout, input, values, classes, output, state, number,
+        );
         number += 1;
     }
     let waiting = state.waiting;
-    put(output, waiting);
+    put(rt, stdout, output, waiting);
 }
 
-fn main() {
+fn main(rt: HostRuntime) {
     let mut input = [0u8; 65536];
     let mut values = [0u32; 8192];
     let mut classes = [255u8; 8192];
     let mut output = [0u8; 262144];
-    run(&mut input, &mut values, &mut classes, &mut output);
+    let mut stdin = rt.stdin();
+    let mut stdout = rt.stdout();
+    run(
+        &rt,
+        &mut stdin,
+        &mut stdout,
+        &mut input,
+        &mut values,
+        &mut classes,
+        &mut output,
+    );
 }

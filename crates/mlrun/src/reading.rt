@@ -4,16 +4,19 @@ ghost use Rattle.std.proofs.Math.Seq.{slice};
 ghost use Rattle.input.specs.Front.{front};
 ghost use Rattle.mlrun.specs.Reading.{Added, Holds};
 
+use crate::telling::tell;
 use crate::waiting::again;
 use input::buffer::shift;
 use input::front::wanted;
+use std::io::{Eprint, Error, Read};
+use std::time::Clock;
 
-// What a read came to: how many bytes came, none at the end of the input; whether it is to be made again; whether it could be done.
+// What a read came to: how many bytes came, none at the end of the input; whether it is to be made again; why it couldn't be done, if it couldn't.
 #[derive(Clone, Copy)]
 struct Came {
     count: usize,
     again: bool,
-    good: bool,
+    error: Option<Error>,
 }
 
 // Where in the buffer the bytes stand that were read and not used yet, and whether the input could be read.
@@ -25,53 +28,47 @@ pub(crate) struct Window {
 }
 
 // One read into the buffer from a place on, which the buffer has, so that no byte means no more input.
-fn read(input: &mut [u8], to: usize) -> Came
+fn read(rt: &impl Clock, stdin: &mut impl Read, input: &mut [u8], to: usize) -> Came
     requires { to < length input.old }
     ensures { Added to result.count input.old input.new }
 {
     let part = &mut input[to..];
-    let got = libc::read(libc::STDIN_FILENO, part);
-    let count = io::count(got, part);
-    if 0 <= got {
-        return Came {
+    match stdin.read(part) {
+        Ok(count) => Came {
             count,
             again: false,
-            good: true,
-        };
-    }
-    let again = again();
-    Came {
-        count: 0,
-        again,
-        good: false,
+            error: None,
+        },
+        Err(error) => Came {
+            count: 0,
+            again: again(rt, &error),
+            error: Some(error),
+        },
     }
 }
 
 // Reads as soon as there is something to read.
-fn more(input: &mut [u8], to: usize) -> Came
+fn more(rt: &impl Clock, stdin: &mut impl Read, input: &mut [u8], to: usize) -> Came
     requires { to < length input.old }
     ensures { Added to result.count input.old input.new }
 {
+    let mut came = read(rt, stdin, input, to);
     let mut turn = 0u64;
     while turn < u64::MAX {
-        let came = read(input, to);
         if !came.again {
             return came;
         }
+        came = read(rt, stdin, input, to);
         turn += 1;
     }
-    Came {
-        count: 0,
-        again: false,
-        good: false,
-    }
+    came
 }
 
 // Tells that the input can't be read. What is there stays.
-fn unread(to: usize) -> Window
+fn unread(rt: &impl Eprint, to: usize, error: &Error) -> Window
     ensures { (result.from ≡ 0) × (result.to ≡ to) }
 {
-    os::fail(b"mlrun: standard input can't be read");
+    tell(rt, "mlrun: standard input can't be read", error);
     Window {
         from: 0,
         to,
@@ -80,15 +77,15 @@ fn unread(to: usize) -> Window
 }
 
 // Reads on until the record at the front is there, or the input ends or can't be read, which is told.
-fn load(input: &mut [u8], there: usize) -> Window
+fn load(rt: &(impl Clock + Eprint), stdin: &mut impl Read, input: &mut [u8], there: usize) -> Window
     requires { (there ≤ length input.old) × (1028 ≤ length input.old) }
     ensures { Holds (take there input.old) input.new result.from result.to }
 {
     let mut to = there;
     while to < wanted(&input[..to]) {
-        let came = more(input, to);
-        if !came.good {
-            return unread(to);
+        let came = more(rt, stdin, input, to);
+        if let Some(error) = came.error {
+            return unread(rt, to, &error);
         }
         if came.count == 0 {
             break;
@@ -103,7 +100,14 @@ fn load(input: &mut [u8], there: usize) -> Window
 }
 
 // The record at the front is there whole, if the input has it: where it isn't ready, what is there moves to the front, and more is read.
-pub(crate) fn fill(input: &mut [u8], from: usize, to: usize, ready: bool) -> Window
+pub(crate) fn fill(
+    rt: &(impl Clock + Eprint),
+    stdin: &mut impl Read,
+    input: &mut [u8],
+    from: usize,
+    to: usize,
+    ready: bool,
+) -> Window
     requires { (from ≤ to) × (to ≤ length input.old) × (1028 ≤ length input.old) }
     ensures { Holds (slice from to input.old) input.new result.from result.to }
 {
@@ -115,7 +119,7 @@ pub(crate) fn fill(input: &mut [u8], from: usize, to: usize, ready: bool) -> Win
         };
     }
     let there = shift(input, from, to);
-    load(input, there)
+    load(rt, stdin, input, there)
 }
 
 // How many bytes of the record at the front are there.

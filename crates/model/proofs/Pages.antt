@@ -1,10 +1,10 @@
 -- The border between a ledger and its pages, both ways, and pages by what they keep. A buffer that is lent besides is one more argument of
 -- `page-path` and `ledger-path`, and a line of each law here.
 -- Assumes nothing.
+use Rattle.std.specs.Prelude.{if◌then◌else◌}
 use mathlib.Core.Path.{◌≡◌, refl, ap, fun_ext}
 use mathlib.Core.Bool.{Bool, true, false}
 use Prim.Native.Nat.{ℕ}
-use Rattle.bounded.specs.Tests.{if◌then◌else◌}
 use Rattle.model.specs.declared.Description.{Description}
 use Rattle.model.specs.Description.{over}
 use Rattle.model.specs.Tables.{nolevel, State, seen}

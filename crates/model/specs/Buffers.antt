@@ -1,7 +1,6 @@
 -- The border between the two lent buffers and the tables (01, "Relations, cells, buffers").
 -- Assumes nothing: these are definitions.
-use Rattle.std.specs.Prelude.{ℕ, suc, pred, ◌+◌, ◌*◌, Bool, ◌&&◌, List, eqb, ltb, length, get_or}
-use Rattle.bounded.specs.Tests.{if◌then◌else◌}
+use Rattle.std.specs.Prelude.{ℕ, suc, pred, ◌+◌, ◌*◌, Bool, ◌&&◌, List, eqb, ltb, length, get_or, if◌then◌else◌}
 use Rattle.bounded.specs.Lists.{list_below, concat_below}
 use Rattle.model.specs.declared.Description.{Description}
 use Rattle.model.specs.Description.{is_level, is_column, column_count, row_count, start_of, total_of}

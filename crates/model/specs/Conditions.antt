@@ -1,7 +1,6 @@
 -- Conditions (01, "Conditions"), a flat list of column, mark, test and constant.
 -- Assumes nothing: these are definitions.
-use Rattle.std.specs.Prelude.{ℕ, ◌+◌, ◌*◌, ◌/◌, Bool, false, not, ◌&&◌, List, eqb, leb, length, get_or}
-use Rattle.bounded.specs.Tests.{if◌then◌else◌}
+use Rattle.std.specs.Prelude.{ℕ, ◌+◌, ◌*◌, ◌/◌, Bool, false, not, ◌&&◌, List, eqb, leb, length, get_or, if◌then◌else◌}
 use Rattle.bounded.specs.Bounded.{all_below}
 use Rattle.model.specs.declared.Description.{Description}
 use Rattle.model.specs.Description.{between, is_level, is_column, over}

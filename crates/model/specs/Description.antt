@@ -1,9 +1,8 @@
 -- A description: its levels and relations, and when it is sound (01, "Levels" and "Relations, cells, buffers").
 -- Assumes nothing: these are definitions.
-use Rattle.std.specs.Prelude.{ℕ, suc, ◌+◌, ◌*◌, Bool, not, ◌&&◌, List, eqb, ltb, leb, get_or}
+use Rattle.std.specs.Prelude.{ℕ, suc, ◌+◌, ◌*◌, Bool, not, ◌&&◌, List, eqb, ltb, leb, get_or, if◌then◌else◌}
 use Rattle.level.specs.Label.{height_of}
 use Rattle.level.specs.Order.{level_dominates}
-use Rattle.bounded.specs.Tests.{if◌then◌else◌}
 use Rattle.bounded.specs.Bounded.{all_below, sum_below}
 use Rattle.model.specs.declared.Description.{Description}
 

@@ -1,7 +1,6 @@
 -- What a statement at level c leaves: new rows at c, and what becomes of the rows above. One definition for all statements.
 -- Assumes nothing: these are definitions.
-use Rattle.std.specs.Prelude.{ℕ, Bool, not, ◌&&◌, ◌||◌, eqb, ltb}
-use Rattle.bounded.specs.Tests.{if◌then◌else◌}
+use Rattle.std.specs.Prelude.{ℕ, Bool, not, ◌&&◌, ◌||◌, eqb, ltb, if◌then◌else◌}
 use Rattle.bounded.specs.Bounded.{first_below}
 use Rattle.model.specs.declared.Description.{Description}
 use Rattle.model.specs.Description.{over, row_count, foreign_of, refers_of}

@@ -1,7 +1,6 @@
 -- What a call is lent to keep, the ledger, and what of it each level keeps, its page. The tables' cells are all of it so far.
 -- Assumes nothing: these are definitions.
-use Rattle.std.specs.Prelude.{ℕ, Bool}
-use Rattle.bounded.specs.Tests.{if◌then◌else◌}
+use Rattle.std.specs.Prelude.{ℕ, Bool, if◌then◌else◌}
 use Rattle.model.specs.declared.Description.{Description}
 use Rattle.model.specs.Description.{over}
 use Rattle.model.specs.Tables.{Level, nolevel, State}

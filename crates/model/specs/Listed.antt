@@ -1,8 +1,7 @@
 -- The flat lists beside a statement: pairs of a column and a value or FROM level, and AT levels.
 -- Assumes nothing: these are definitions.
-use Rattle.std.specs.Prelude.{ℕ, ◌+◌, ◌*◌, ◌/◌, ◌%◌, Bool, List, eqb, ltb, length, get_or}
+use Rattle.std.specs.Prelude.{ℕ, ◌+◌, ◌*◌, ◌/◌, ◌%◌, Bool, List, eqb, ltb, length, get_or, if◌then◌else◌}
 use Rattle.std.proofs.Math.Option.{Option, none, some}
-use Rattle.bounded.specs.Tests.{if◌then◌else◌}
 use Rattle.bounded.specs.Bounded.{first_below, all_below, any_below}
 use Rattle.model.specs.Description.{distinct_below}
 

@@ -1,9 +1,8 @@
 -- The whole of one call: from a description, the ledger, a statement with its lists and its output buffers to an answer, the output buffers
 -- and the ledger at exit.
 -- Assumes nothing: these are definitions.
-use Rattle.std.specs.Prelude.{ℕ, Bool, ◌&&◌, List, [], ◌∷◌, eqb, length}
+use Rattle.std.specs.Prelude.{ℕ, Bool, ◌&&◌, List, [], ◌∷◌, eqb, length, if◌then◌else◌}
 use Rattle.std.proofs.Math.Option.{Option, none, some}
-use Rattle.bounded.specs.Tests.{if◌then◌else◌}
 use Rattle.bounded.specs.Bounded.{count_below}
 use Rattle.bounded.specs.Lists.{write_at}
 use Rattle.model.specs.declared.Description.{Description}

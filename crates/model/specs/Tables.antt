@@ -1,8 +1,7 @@
 -- Cells, rows and tables (01, "Relations, cells, buffers"). Relations and columns are numbered from 1, levels and rows from 0. What lies
 -- outside a description is empty.
 -- Assumes nothing: these are definitions.
-use Rattle.std.specs.Prelude.{ℕ, suc, Bool, not, ◌&&◌, eqb, ltb}
-use Rattle.bounded.specs.Tests.{if◌then◌else◌}
+use Rattle.std.specs.Prelude.{ℕ, suc, Bool, not, ◌&&◌, eqb, ltb, if◌then◌else◌}
 use Rattle.bounded.specs.Bounded.{first_below, all_below}
 use Rattle.model.specs.declared.Description.{Description}
 use Rattle.model.specs.Description.{over, column_count, row_count, in_range}

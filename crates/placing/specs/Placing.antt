@@ -1,7 +1,6 @@
 -- A row of the tables as they are handed in: a record of kind 3 (01, "mlrun").
 -- Assumes nothing: these are definitions and statements.
-use Rattle.std.specs.Prelude.{ℕ, pred, ◌+◌, ◌*◌, ◌≡◌, Bool, ◌&&◌, List, eqb, leb, length}
-use Rattle.bounded.specs.Tests.{if◌then◌else◌}
+use Rattle.std.specs.Prelude.{ℕ, pred, ◌+◌, ◌*◌, ◌≡◌, Bool, ◌&&◌, List, eqb, leb, length, if◌then◌else◌}
 use Rattle.bounded.specs.Bounded.{all_below}
 use Rattle.model.specs.declared.Description.{Description}
 use Rattle.model.specs.Description.{is_level, is_relation, column_count, sound}

@@ -1,6 +1,7 @@
 -- How far the lists of a record reach, and that a whole record has room for neither more than 512 numbers in its list nor more in its
 -- conditions.
 -- Assumes nothing.
+use Rattle.std.specs.Prelude.{if◌then◌else◌}
 use Prim.Native.Nat.{ℕ, ◌+◌, ◌*◌, ◌≤◌}
 use mathlib.Core.Path.{◌≡◌}
 use mathlib.Core.Bool.{Bool, true, false}
@@ -9,7 +10,6 @@ use native.Mathlib.Omega.{arith}
 use lib.Dec.{eqb, leb}
 use lib.ListN.{length}
 use borrow.Author.Tests.{eqb-true, leb-true}
-use Rattle.bounded.specs.Tests.{if◌then◌else◌}
 use Rattle.bounded.proofs.Cases.{and_left, and_right}
 use Rattle.records.specs.declared.kinds.Entry.{Entry}
 use Rattle.records.specs.declared.kinds.Entry.TheVariants as Entries

@@ -1,7 +1,6 @@
 -- The records that describe the tables: kind 1, the labels, and kind 2, a relation (01, "mlrun").
 -- Assumes nothing: these are definitions.
-use Rattle.std.specs.Prelude.{ℕ, suc, ◌+◌, ◌*◌, ◌-◌, ◌/◌, ◌%◌, min, Bool, List, eqb, ltb, length, set, replicate}
-use Rattle.bounded.specs.Tests.{if◌then◌else◌}
+use Rattle.std.specs.Prelude.{ℕ, suc, ◌+◌, ◌*◌, ◌-◌, ◌/◌, ◌%◌, min, Bool, List, eqb, ltb, length, set, replicate, if◌then◌else◌}
 use Rattle.bounded.specs.Lists.{list_below, write_at}
 use Rattle.model.specs.declared.Description.{Description}
 use Rattle.records.specs.Bytes.{pair}

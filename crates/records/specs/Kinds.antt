@@ -1,8 +1,7 @@
 -- The kinds of statements as a table: what a record has behind its level and its relation (01, "mlrun"). Places count from the record's first
 -- byte, its header included.
 -- Assumes nothing: these are definitions.
-use Rattle.std.specs.Prelude.{ℕ, Bool, eqb}
-use Rattle.bounded.specs.Tests.{if◌then◌else◌}
+use Rattle.std.specs.Prelude.{ℕ, Bool, eqb, if◌then◌else◌}
 use Rattle.model.specs.Description.{between}
 use Rattle.records.specs.declared.kinds.Entry.{Entry}
 use Rattle.records.specs.declared.kinds.Entry.TheVariants as Entries

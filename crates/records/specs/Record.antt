@@ -1,7 +1,6 @@
 -- One record: "two-byte body length, two-byte kind, body" (01, "mlrun").
 -- Assumes nothing: these are definitions.
-use Rattle.std.specs.Prelude.{ℕ, ◌+◌, Bool, ◌&&◌, List, eqb, ltb, leb, length}
-use Rattle.bounded.specs.Tests.{if◌then◌else◌}
+use Rattle.std.specs.Prelude.{ℕ, ◌+◌, Bool, ◌&&◌, List, eqb, ltb, leb, length, if◌then◌else◌}
 use Rattle.model.specs.Description.{between}
 use Rattle.records.specs.Bytes.{pair}
 use Rattle.records.specs.Kinds.{is_kind}

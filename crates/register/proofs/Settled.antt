@@ -10,7 +10,7 @@ use Rattle.register.proofs.run.Reads as run
 pub judge-settled : Settled judge.Post
 judge-settled κs a x y e f p q = p ∙ sym q
 
-pub run_settled : (κs : _) (a : _) (x y : _) (e f : _) → run.Post κs a x e → run.Post κs a y f
+pub run-settled : (κs : _) (a : _) (x y : _) (e f : _) → run.Post κs a x e → run.Post κs a y f
     → outcome x e.1.0.now e.1.1.0.now e.1.1.1.1.1.1.0.now e.1.1.1.1.1.1.1.0.now
     ≡ outcome y f.1.0.now f.1.1.0.now f.1.1.1.1.1.1.0.now f.1.1.1.1.1.1.1.0.now
-run_settled κs a x y e f p q = p ∙ sym q
+run-settled κs a x y e f p q = p ∙ sym q

@@ -1,5 +1,6 @@
 -- The rows that SELECT finds: level by level and row by row, how many there are, and that a subject sees all of them.
 -- Assumes nothing.
+use Rattle.std.specs.Prelude.{if◌then◌else◌}
 use Prim.Native.Nat.{ℕ, zero, suc, ◌+◌, ◌≤◌, ◌<◌}
 use mathlib.Core.Path.{◌≡◌, refl, sym, ap, ap₂, ◌∙◌, subst}
 use mathlib.Core.Bool.{Bool, true, false, ◌&&◌}
@@ -8,7 +9,6 @@ use native.Mathlib.Omega.{arith}
 use lib.Dec.{eqb}
 use lib.ListN.{length, get_or, take, length-append}
 use lib.Seq.{take-suc}
-use Rattle.bounded.specs.Tests.{if◌then◌else◌}
 use Rattle.bounded.specs.Bounded.{count_below}
 use Rattle.bounded.specs.Lists.{concat_below}
 use Rattle.bounded.proofs.Cases.{cases, at-end}

@@ -1,5 +1,6 @@
 -- The levels that SELECT shows, laid out by height, then number: each stands there once, so there are at most 16.
 -- Assumes nothing.
+use Rattle.std.specs.Prelude.{if◌then◌else◌}
 use Prim.Native.Nat.{ℕ, zero, suc, ◌+◌, ◌≤◌, ◌<◌}
 use mathlib.Core.Path.{◌≡◌, refl, sym, ap, ◌∙◌, subst}
 use mathlib.Core.Bool.{Bool, true, false}
@@ -11,7 +12,6 @@ use lib.Dec.{eqb, ltb}
 use lib.ListN.{length, get_or, set, replicate, length-append, length-set}
 use lib.Seq.{take-suc-set, get_or-take}
 use borrow.Author.Tests.{lt-ltb, le-ltb, eq-eqb, ne_eqb}
-use Rattle.bounded.specs.Tests.{if◌then◌else◌}
 use Rattle.bounded.specs.Bounded.{count_below}
 use Rattle.bounded.specs.Lists.{concat_below}
 use Rattle.bounded.proofs.Cases.{cases, order, at-end}

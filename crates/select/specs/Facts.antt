@@ -1,7 +1,6 @@
 -- What the functions of the statement know and promise besides.
 -- Assumes nothing: these are definitions and statements.
-use Rattle.std.specs.Prelude.{◌≡◌, Bool, true, false, ◌&&◌, List, [], ◌∷◌, ◌++◌, ℕ, suc, ◌+◌, ◌≤◌, ◌<◌, eqb, leb, length, get_or, take}
-use Rattle.bounded.specs.Tests.{if◌then◌else◌}
+use Rattle.std.specs.Prelude.{◌≡◌, Bool, true, false, ◌&&◌, List, [], ◌∷◌, ◌++◌, ℕ, suc, ◌+◌, ◌≤◌, ◌<◌, eqb, leb, length, get_or, take, if◌then◌else◌}
 use Rattle.bounded.specs.Lists.{list_below, concat_below, write_at}
 use Rattle.model.specs.declared.Description.{Description}
 use Rattle.model.specs.declared.Fault.TheVariants as Faults

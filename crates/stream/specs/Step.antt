@@ -1,7 +1,6 @@
 -- What one record does (01, "mlrun").
 -- Assumes nothing: these are definitions.
-use Rattle.std.specs.Prelude.{ℕ, Bool, true, false, List, [], ◌++◌, eqb, take, drop, replicate}
-use Rattle.bounded.specs.Tests.{if◌then◌else◌}
+use Rattle.std.specs.Prelude.{ℕ, Bool, true, false, List, [], ◌++◌, eqb, take, drop, replicate, if◌then◌else◌}
 use Rattle.model.specs.declared.Description.{Description}
 use Rattle.model.specs.declared.Statement.{Statement}
 use Rattle.model.specs.Description.{column_count, total_of, sound}

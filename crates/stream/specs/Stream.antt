@@ -1,7 +1,6 @@
 -- A whole stream: a fold of one step (01, "mlrun").
 -- Assumes nothing: these are definitions.
-use Rattle.std.specs.Prelude.{ℕ, zero, suc, List, [], ◌∷◌, ◌++◌, length, take, drop, replicate}
-use Rattle.bounded.specs.Tests.{if◌then◌else◌}
+use Rattle.std.specs.Prelude.{ℕ, zero, suc, List, [], ◌∷◌, ◌++◌, length, take, drop, replicate, if◌then◌else◌}
 use Rattle.model.specs.Buffers.{holding}
 use Rattle.model.specs.Ledger.{lending}
 use Rattle.records.specs.Record.{size_of}

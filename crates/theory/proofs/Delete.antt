@@ -1,12 +1,12 @@
 -- DELETE's effect is apt. W finds rows by key, N the new rows at c.
 -- Assumes nothing.
+use Rattle.std.specs.Prelude.{if◌then◌else◌}
 use Prim.Native.Nat.{ℕ, ◌<◌}
 use mathlib.Core.Bool.{true, false, ◌&&◌, false≢true}
 use mathlib.Core.List.{List}
 use mathlib.Core.Logic.{◌≢◌, ◌⊎◌, inl, inr}
 use mathlib.Core.Path.{◌≡◌, refl, sym, ap, ◌∙◌}
 use lib.Dec.{eqb}
-use Rattle.bounded.specs.Tests.{if◌then◌else◌}
 use Rattle.bounded.proofs.Reflection.{if-cases, is_true, is_false, decide, bool-r, and_r, eqb-r}
 use Rattle.model.specs.Conditions.{met}
 use Rattle.model.specs.Description.{foreign_of, refers_of}

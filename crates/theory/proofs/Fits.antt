@@ -1,5 +1,6 @@
 -- The effects of INSERT, DELETE, UPDATE and UPLEVEL fit legal tables.
 -- Assumes nothing.
+use Rattle.std.specs.Prelude.{if◌then◌else◌}
 use Prim.Native.Nat.{ℕ, suc, ◌<◌, ◌≤◌}
 use mathlib.Core.Bool.{Bool, true, ◌&&◌}
 use mathlib.Core.List.{List}
@@ -8,7 +9,6 @@ use mathlib.Core.Option.{none, some}
 use mathlib.Core.Path.{◌≡◌, refl, sym, ap, ◌∙◌, fun_ext}
 use native.Mathlib.Nat.{not-le_of_lt}
 use lib.Dec.{eqb}
-use Rattle.bounded.specs.Tests.{if◌then◌else◌}
 use Rattle.bounded.proofs.All.{all-at}
 use Rattle.bounded.proofs.First.{first_holds}
 use Rattle.bounded.proofs.Reflection.{if-cases, is_true, is_false, of-true, decide, bool-r, and_r, eqb-r}

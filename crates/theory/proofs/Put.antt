@@ -1,10 +1,10 @@
 -- A row put in place i₀, which was empty or held the row of the same key.
 -- Assumes nothing.
+use Rattle.std.specs.Prelude.{if◌then◌else◌}
 use Prim.Native.Nat.{ℕ, ◌<◌}
 use mathlib.Core.Logic.{◌≢◌, ◌⊎◌, inl, inr}
 use mathlib.Core.Path.{◌≡◌, refl, sym, ◌∙◌, fun_ext}
 use lib.Dec.{eqb}
-use Rattle.bounded.specs.Tests.{if◌then◌else◌}
 use Rattle.bounded.proofs.Reflection.{is_true, is_false, decide, eqb-r}
 use Rattle.model.specs.Tables.{Row, norow, seek}
 use Rattle.theory.proofs.Fine.{Absent}

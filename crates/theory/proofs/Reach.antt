@@ -1,11 +1,12 @@
 -- How a row above the subject's level comes out of a statement, by cases.
 -- Assumes nothing.
+use Rattle.std.specs.Prelude.{if◌then◌else◌}
 use Prim.Native.Nat.{ℕ, ◌<◌}
 use mathlib.Core.Bool.{true}
 use mathlib.Core.Logic.{◌≢◌, ◌⊎◌, inl, inr}
 use mathlib.Core.Path.{◌≡◌, refl, sym, ◌∙◌}
 use native.Mathlib.Omega.{arith}
-use Rattle.bounded.specs.Tests.{if◌then◌else◌, Reflects}
+use Rattle.bounded.specs.Tests.{Reflects}
 use Rattle.bounded.proofs.Reflection.{if-cases, decide, bool-r, not-r, and_r, reflects-as, eqb-r}
 use Rattle.model.specs.Description.{over, foreign_of, refers_of, in_range}
 use Rattle.model.specs.Effect.{Change, keep, take, only, Above, agrees, changed, gone_at, reach, carry}

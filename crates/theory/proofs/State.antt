@@ -1,9 +1,9 @@
 -- One call on pages: what it is refused for, what it leaves, and what is heard.
 -- Assumes nothing: these are definitions.
+use Rattle.std.specs.Prelude.{if◌then◌else◌}
 use mathlib.Core.Bool.{Bool, true, false}
 use mathlib.Core.List.{◌∷◌}
 use mathlib.Core.Option.{Option, none, some}
-use Rattle.bounded.specs.Tests.{if◌then◌else◌}
 use Rattle.model.specs.Judge.{legal_pages}
 use Rattle.model.specs.Run.{Request, subject, first_fault, tests, after, Reply, refused, done}
 use Rattle.model.specs.Tables.{seen}

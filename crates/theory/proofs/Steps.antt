@@ -2,6 +2,7 @@
 -- heard, and what is done to the levels that a level sees, depend on what is seen; requests from levels that do not dominate each other
 -- commute. So any merging of two queues at such levels is heard alike and leaves the same pages.
 -- Assumes nothing.
+use Rattle.std.specs.Prelude.{if◌then◌else◌}
 use Prim.Native.Nat.{ℕ, ◌<◌}
 use mathlib.Core.Bool.{true, false}
 use mathlib.Core.List.{List}
@@ -9,7 +10,6 @@ use mathlib.Core.Logic.{◌⊎◌, inl, inr}
 use mathlib.Core.Option.{Option, none, some}
 use mathlib.Core.Path.{◌≡◌, refl, sym, ap, ◌∙◌, fun_ext}
 use lib.Dec.{ltb}
-use Rattle.bounded.specs.Tests.{if◌then◌else◌}
 use Rattle.bounded.proofs.Cases.{and_left, and_right}
 use Rattle.bounded.proofs.Reflection.{is_false, of-true, decide, bool-r, ltb-r}
 use Rattle.model.specs.Description.{is_level, over, is_relation, row_count}

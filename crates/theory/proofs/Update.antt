@@ -1,5 +1,6 @@
 -- UPDATE's effect is apt. W finds rows by key, N the new rows at c.
 -- Assumes nothing.
+use Rattle.std.specs.Prelude.{if◌then◌else◌}
 use Prim.Native.Nat.{ℕ, ◌<◌}
 use mathlib.Core.Bool.{true, false, ◌&&◌, false≢true}
 use mathlib.Core.List.{List}
@@ -8,7 +9,6 @@ use mathlib.Core.Option.{Option, none, some}
 use mathlib.Core.Path.{◌≡◌, refl, sym, ◌∙◌}
 use native.Mathlib.Omega.{arith}
 use lib.Dec.{eqb}
-use Rattle.bounded.specs.Tests.{if◌then◌else◌}
 use Rattle.bounded.proofs.Reflection.{is_true, is_false, of-true, decide, bool-r, not-r, and_r, eqb-r}
 use Rattle.model.specs.Conditions.{met}
 use Rattle.model.specs.Description.{foreign_of, refers_of, in_range}

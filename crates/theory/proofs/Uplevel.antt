@@ -1,5 +1,6 @@
 -- UPLEVEL's effect is apt. W finds rows by key, N the new rows at c.
 -- Assumes nothing.
+use Rattle.std.specs.Prelude.{if◌then◌else◌}
 use Prim.Native.Nat.{ℕ, ◌<◌}
 use mathlib.Core.Bool.{true, false, ◌&&◌, false≢true}
 use mathlib.Core.List.{List}
@@ -8,7 +9,7 @@ use mathlib.Core.Option.{Option, none, some}
 use mathlib.Core.Path.{◌≡◌, refl, sym, ap, ◌∙◌, subst}
 use native.Mathlib.Omega.{arith}
 use lib.Dec.{eqb}
-use Rattle.bounded.specs.Tests.{if◌then◌else◌, Reflects}
+use Rattle.bounded.specs.Tests.{Reflects}
 use Rattle.bounded.proofs.Reflection.{if-cases, is_true, is_false, decide, not-r, and_r, eqb-r}
 use Rattle.model.specs.Description.{over, row_count, foreign_of, refers_of, in_range}
 use Rattle.model.specs.Effect.{Rows, Change, keep, take, only, Above, agrees, lowest_empty}

@@ -18,47 +18,68 @@ mod shown;
 mod tables;
 mod timed;
 
+use std::io;
+use std::io::Print;
+
 // The text of a line that is to be printed.
-fn say(line: &[u8]) {
+fn say(rt: &impl Print, line: &[u8]) -> io::Result<()> {
     if line.len() < 2 {
-        return;
+        return Ok(());
     }
     let end = line.len() - 1;
     match line[0] {
-        b'>' => {
-            io::write_all(1, &line[1..]);
-        }
-        b'=' => {
-            io::write_all(1, &line[1..end]);
-        }
-        _ => {}
+        b'>' => rt.write_all(&line[1..]),
+        b'=' => rt.write_all(&line[1..end]),
+        _ => Ok(()),
     }
 }
 
 // What a line asks of tables that are as long as was given.
-fn act(first: u8, given: &[u32], values: &mut [u32], classes: &mut [u8], numbers: &[u32]) {
+fn act(
+    rt: &impl Print,
+    first: u8,
+    given: &[u32],
+    values: &mut [u32],
+    classes: &mut [u8],
+    numbers: &[u32],
+) -> io::Result<()> {
     match first {
         b't' => tables::set(given, values, classes, numbers),
-        b'j' => shown::judge(given, values, classes),
-        b's' => shown::statement(given, values, classes, numbers),
-        b'r' => timed::repeat(given, values, classes, numbers),
+        b'j' => shown::judge(rt, given, values, classes)?,
+        b's' => shown::statement(rt, given, values, classes, numbers)?,
+        b'r' => timed::repeat(rt, given, values, classes, numbers)?,
         _ => {}
     }
+    Ok(())
 }
 
 // What a line with this first byte and these numbers asks.
-fn turn(first: u8, given: &mut [u32], values: &mut [u32], classes: &mut [u8], numbers: &[u32]) {
+fn turn(
+    rt: &impl Print,
+    first: u8,
+    given: &mut [u32],
+    values: &mut [u32],
+    classes: &mut [u8],
+    numbers: &[u32],
+) -> io::Result<()> {
     if first == b'g' {
         given::store(given, numbers);
-        return;
+        return Ok(());
     }
     let n = given::least(given::size(given, 216), values.len());
     let m = given::least(given::size(given, 217), classes.len());
-    act(first, given, &mut values[..n], &mut classes[..m], numbers);
+    act(
+        rt,
+        first,
+        given,
+        &mut values[..n],
+        &mut classes[..m],
+        numbers,
+    )
 }
 
-// Line after line.
-fn lines(bytes: &[u8]) {
+// Line after line, as long as what they print can be written.
+fn lines(rt: &impl Print, bytes: &[u8]) -> io::Result<()> {
     let mut given = [0u32; 20000];
     let mut values = [0u32; 8200];
     let mut classes = [0u8; 8200];
@@ -67,20 +88,23 @@ fn lines(bytes: &[u8]) {
         let end = read::end(bytes, at);
         let mut numbers = [0u32; 600];
         let count = read::numbers(&bytes[at..end], &mut numbers);
-        say(&bytes[at..end]);
+        say(rt, &bytes[at..end])?;
         turn(
+            rt,
             bytes[at],
             &mut given,
             &mut values,
             &mut classes,
             &numbers[..count],
-        );
+        )?;
         at = end;
     }
+    Ok(())
 }
 
-fn main() {
+fn main(rt: HostRuntime) -> io::Result<()> {
     let mut bytes = [0u8; 131072];
-    let count = io::read_full(0, &mut bytes);
-    lines(&bytes[..count]);
+    let mut stdin = rt.stdin();
+    let count = read::full(&mut stdin, &mut bytes);
+    lines(&rt, &bytes[..count])
 }

@@ -1,5 +1,22 @@
-// The lines of the input, and the numbers that stand in a line.
+// The input, its lines, and the numbers that stand in a line.
 ghost use Rattle.std.specs.Prelude.{◌≤◌, ◌<◌, length};
+
+use std::io::Read;
+
+// Reads until there is no more room, the input ends or a read fails; how many bytes came.
+pub(crate) fn full(stdin: &mut impl Read, bytes: &mut [u8]) -> usize
+    ensures { result ≤ length bytes.old }
+{
+    let mut count = 0;
+    while count < bytes.len() {
+        let came = stdin.read(&mut bytes[count..]).unwrap_or(0);
+        if came == 0 {
+            break;
+        }
+        count += came;
+    }
+    count
+}
 
 // The place behind the line that starts at a place.
 pub(crate) fn end(bytes: &[u8], from: usize) -> usize

@@ -1,14 +1,15 @@
 // What is answered, printed with every cell of the four buffers before and after: `.` for (0, 255), and `-` where a buffer has no such cell.
 use crate::given::{described, entry, least, size, word};
 use model::{Answer, Statement, What};
+use std::io;
+use std::io::Print;
 
 // A number, or the first that no cell can hold, for none.
-fn print(number: u64) {
+fn print(rt: &impl Print, number: u64) -> io::Result<()> {
     if number == 4294967296 {
-        io::write_all(1, b"-");
-        return;
+        return print!(rt; "-");
     }
-    io::print_decimal(1, number);
+    print!(rt; "{number}")
 }
 
 fn wide(class: u8) -> u64 {
@@ -29,50 +30,61 @@ fn class_at(classes: &[u8], at: usize) -> u64 {
     wide(classes[at])
 }
 
-fn print_cell(value: u64, class: u64) {
-    io::write_all(1, b" ");
+fn print_cell(rt: &impl Print, value: u64, class: u64) -> io::Result<()> {
+    print!(rt; " ")?;
     if value == 0 {
         if class == 255 {
-            io::write_all(1, b".");
-            return;
+            return print!(rt; ".");
         }
     }
-    print(value);
-    io::write_all(1, b"/");
-    print(class);
+    print(rt, value)?;
+    print!(rt; "/")?;
+    print(rt, class)
 }
 
 fn longer(a: usize, b: usize) -> usize {
     if a < b { b } else { a }
 }
 
-fn cells(values: &[u32], classes: &[u8]) {
+fn cells(rt: &impl Print, values: &[u32], classes: &[u8]) -> io::Result<()> {
     let length = longer(values.len(), classes.len());
     let mut at = 0;
     while at < length {
-        print_cell(value_at(values, at), class_at(classes, at));
+        print_cell(rt, value_at(values, at), class_at(classes, at))?;
         at += 1;
     }
-    io::write_all(1, b"\n");
+    println!(rt)
 }
 
 // The tables and what is shown, a line each.
-fn show(values: &[u32], classes: &[u8], shown: &[u32], owners: &[u8]) {
-    cells(values, classes);
-    cells(shown, owners);
+fn show(
+    rt: &impl Print,
+    values: &[u32],
+    classes: &[u8],
+    shown: &[u32],
+    owners: &[u8],
+) -> io::Result<()> {
+    cells(rt, values, classes)?;
+    cells(rt, shown, owners)
 }
 
-fn tell(answer: Answer) {
-    print(numbers::number(answer) as u64);
-    io::write_all(1, b" ");
-    print(numbers::count(answer) as u64);
-    io::write_all(1, b"\n");
+fn tell(rt: &impl Print, answer: Answer) -> io::Result<()> {
+    print(rt, numbers::number(answer) as u64)?;
+    print!(rt; " ")?;
+    print(rt, numbers::count(answer) as u64)?;
+    println!(rt)
 }
 
 // The verdict on the tables.
-pub(crate) fn judge(given: &[u32], values: &[u32], classes: &[u8]) {
-    io::write_all(1, b" ");
-    print(numbers::verdict(register::judge(described(given), values, classes)) as u64);
+pub(crate) fn judge(
+    rt: &impl Print,
+    given: &[u32],
+    values: &[u32],
+    classes: &[u8],
+) -> io::Result<()> {
+    print!(rt; " ")?;
+    let verdict = register::judge(described(given), values, classes);
+    print(rt, numbers::verdict(verdict) as u64)
 }
 
 fn what(kind: u16, key: u32, class: u16) -> What {
@@ -112,6 +124,7 @@ pub(crate) fn conditions(numbers: &[u32]) -> &[u32] {
 }
 
 fn call(
+    rt: &impl Print,
     given: &[u32],
     values: &mut [u32],
     classes: &mut [u8],
@@ -120,8 +133,8 @@ fn call(
     statement: Statement,
     list: &[u32],
     conditions: &[u32],
-) {
-    show(values, classes, shown, owners);
+) -> io::Result<()> {
+    show(rt, values, classes, shown, owners)?;
     let answer = register::run(
         described(given),
         values,
@@ -132,17 +145,24 @@ fn call(
         shown,
         owners,
     );
-    tell(answer);
-    show(values, classes, shown, owners);
+    tell(rt, answer)?;
+    show(rt, values, classes, shown, owners)
 }
 
 // The statement that a line's numbers are, with output buffers of which every cell is 9.
-pub(crate) fn statement(given: &[u32], values: &mut [u32], classes: &mut [u8], numbers: &[u32]) {
+pub(crate) fn statement(
+    rt: &impl Print,
+    given: &[u32],
+    values: &mut [u32],
+    classes: &mut [u8],
+    numbers: &[u32],
+) -> io::Result<()> {
     let mut shown = [9u32; 16];
     let mut owners = [9u8; 16];
     let n = least(size(given, 218), 16);
     let m = least(size(given, 219), 16);
     call(
+        rt,
         given,
         values,
         classes,
@@ -151,5 +171,5 @@ pub(crate) fn statement(given: &[u32], values: &mut [u32], classes: &mut [u8], n
         stated(numbers),
         list(numbers),
         conditions(numbers),
-    );
+    )
 }

@@ -4,6 +4,8 @@ use crate::given::{described, entry, least};
 use crate::shown::{conditions, list, stated};
 use crate::tables::{copy_classes, copy_values};
 use model::{Answer, Description, Statement};
+use std::io;
+use std::io::Print;
 
 // The number answered, and 100 times the count.
 fn told(answer: Answer) -> u64 {
@@ -129,13 +131,16 @@ fn answered(given: &[u32], values: &[u32], classes: &[u8], numbers: &[u32], time
     )
 }
 
-pub(crate) fn repeat(given: &[u32], values: &[u32], classes: &[u8], numbers: &[u32]) {
+pub(crate) fn repeat(
+    rt: &impl Print,
+    given: &[u32],
+    values: &[u32],
+    classes: &[u8],
+    numbers: &[u32],
+) -> io::Result<()> {
     if numbers.len() < 1 {
-        return;
+        return Ok(());
     }
-    io::print_decimal(
-        1,
-        answered(given, values, classes, &numbers[1..], entry(numbers, 0)),
-    );
-    io::write_all(1, b"\n");
+    let last = answered(given, values, classes, &numbers[1..], entry(numbers, 0));
+    println!(rt; "{last}")
 }

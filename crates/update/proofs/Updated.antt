@@ -1,5 +1,6 @@
 -- UPDATE: the plan that is made for it, its tests in their order, and the tables that it leaves.
 -- Assumes nothing.
+use Rattle.std.specs.Prelude.{if◌then◌else◌}
 use Prim.Native.Nat.{ℕ, ◌≤◌, ◌<◌}
 use mathlib.Core.Path.{◌≡◌, refl, sym, ap, ap₂, ◌∙◌, fun_ext}
 use mathlib.Core.Bool.{Bool, true, false, not, ◌||◌}
@@ -10,7 +11,6 @@ use native.Mathlib.Omega.{arith}
 use lib.Dec.{eqb, ltb}
 use lib.ListN.{length, get_or, replicate, get_or-replicate, get_or-eq_default}
 use borrow.Author.Tests.{eqb-true, ltb-true, ltb-false}
-use Rattle.bounded.specs.Tests.{if◌then◌else◌}
 use Rattle.bounded.specs.Bounded.{first_below, all_below}
 use Rattle.bounded.proofs.All.{all-at}
 use Rattle.bounded.proofs.Any.{any-first}

@@ -1,5 +1,6 @@
 -- What an UPLEVEL borrows: whether a reference names its row, and what a new cell is, way by way.
 -- Assumes nothing.
+use Rattle.std.specs.Prelude.{if◌then◌else◌}
 use Prim.Native.Nat.{ℕ, ◌+◌, ◌*◌, ◌/◌, ◌≤◌, ◌<◌}
 use mathlib.Core.Path.{◌≡◌, refl, sym, ap, ◌∙◌}
 use mathlib.Core.Bool.{Bool, true, false, not, ◌&&◌}
@@ -10,7 +11,6 @@ use native.Mathlib.Nat.{lt_irrefl}
 use lib.Dec.{eqb}
 use lib.ListN.{length, get_or}
 use borrow.Author.Tests.{eq-eqb, ne_eqb}
-use Rattle.bounded.specs.Tests.{if◌then◌else◌}
 use Rattle.bounded.proofs.Reflection.{of-true, and_r, bool-r}
 use Rattle.model.specs.declared.Description.{Description}
 use Rattle.model.specs.Description.{is_level, is_column, over, foreign_of, refers_of}

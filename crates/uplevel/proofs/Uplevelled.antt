@@ -1,5 +1,6 @@
 -- What an UPLEVEL leaves: the new row at its place; and a plan in which the entity's row is chosen does above what the model says.
 -- Assumes nothing.
+use Rattle.std.specs.Prelude.{if◌then◌else◌}
 use Prim.Native.Nat.{ℕ, ◌≤◌, ◌<◌}
 use mathlib.Core.Path.{◌≡◌, refl, sym, ap, ◌∙◌}
 use mathlib.Core.Bool.{Bool, true, false, ◌&&◌}
@@ -11,7 +12,7 @@ use lib.Dec.{eqb, ltb}
 use lib.ListN.{length, get_or, set, replicate, length-set, get_or-replicate, get_or-eq_default}
 use lib.Seq.{get_or-set_same, get_or-set_other}
 use borrow.Author.Tests.{ltb-true, ltb-false, eqb-true, eqb-false, eq-eqb, ne_eqb}
-use Rattle.bounded.specs.Tests.{if◌then◌else◌, Reflects, holds, fails}
+use Rattle.bounded.specs.Tests.{Reflects, holds, fails}
 use Rattle.bounded.proofs.Cases.{cases, clash, and-false-right}
 use Rattle.bounded.proofs.First.{first_holds}
 use Rattle.bounded.proofs.Reflection.{is_true, is_false, of-true, and_r, bool-r, eqb-r, ltb-r}

@@ -1,7 +1,6 @@
 -- What UPLEVEL's own functions know and promise.
 -- Assumes nothing: these are definitions and statements.
-use Rattle.std.specs.Prelude.{◌≡◌, Bool, true, false, not, ◌&&◌, ◌||◌, List, [], ◌∷◌, ◌≢◌, ℕ, ◌<◌, eqb, ltb, leb, set, replicate}
-use Rattle.bounded.specs.Tests.{if◌then◌else◌}
+use Rattle.std.specs.Prelude.{◌≡◌, Bool, true, false, not, ◌&&◌, ◌||◌, List, [], ◌∷◌, ◌≢◌, ℕ, ◌<◌, eqb, ltb, leb, set, replicate, if◌then◌else◌}
 use Rattle.bounded.specs.Bounded.{count_below}
 use Rattle.model.specs.declared.Description.{Description}
 use Rattle.model.specs.declared.Fault.{Fault}
