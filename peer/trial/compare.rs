@@ -11,7 +11,7 @@ use std::sync::atomic::{AtomicUsize, Ordering};
 use std::sync::Mutex;
 use std::time::{Duration, Instant};
 
-/// How long another program may take for one stream. Under an emulator the longest takes more than a minute; this is for one that hangs.
+/// How long another program may take for one stream: for one that hangs.
 const PATIENCE: Duration = Duration::from_secs(300);
 
 /// What is compared: the special streams, then those of a seed.
