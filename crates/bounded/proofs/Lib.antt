@@ -1,5 +1,6 @@
 pub mod Cases
 pub mod First
+pub mod Found
 pub mod All
 pub mod Any
 pub mod Count

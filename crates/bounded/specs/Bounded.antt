@@ -1,11 +1,15 @@
 -- Searches, quantifiers, counts, sums and folds over the numbers below a bound. Each goes up to the bound as a loop does, its last turn last.
 -- Assumes nothing: these are definitions.
-use Rattle.std.specs.Prelude.{ℕ, zero, suc, ◌+◌, Bool, true, false, ◌&&◌, ◌||◌, ltb, if◌then◌else◌}
+use Rattle.std.specs.Prelude.{ℕ, zero, suc, ◌+◌, Bool, true, false, ◌&&◌, ◌||◌, ltb, if◌then◌else◌, Option, Some, None}
 
 -- the least number below n at which p holds; n where there is none
 unfoldable pub first_below : ℕ → (ℕ → Bool) → ℕ
 first_below zero p = zero
 first_below (suc n) p = let k = first_below n p in if ltb k n then k else if p n then n else suc n
+
+-- k where it is below n, else none: what a search among n came to that leads to k
+unfoldable pub some_below : ℕ → ℕ → Option ℕ
+some_below n k = if ltb k n then Some k else None
 
 -- p holds at each number below n
 unfoldable pub all_below : ℕ → (ℕ → Bool) → Bool
