@@ -1,5 +1,7 @@
 -- What a statement is answered: the first of its tests that fails. What its subject sees of its own level, and the tables that an effect leaves.
 -- Assumes nothing.
+use Rattle.std.specs.Prelude.{Ok, Err}
+use Rattle.model.specs.Answers.{Answer}
 use Prim.Native.Nat.{ℕ}
 use mathlib.Core.Path.{◌≡◌, refl, sym, ap, ap₂, ◌∙◌, fun_ext}
 use mathlib.Core.Bool.{Bool, true, false}
@@ -13,7 +15,6 @@ use borrow.Author.Tests.{eq-eqb, ne_eqb}
 use Rattle.bounded.proofs.Cases.{cases}
 use Rattle.model.specs.declared.Description.{Description}
 use Rattle.model.specs.declared.Fault.{Fault}
-use Rattle.model.specs.declared.Answer.{Answer}
 use Rattle.model.specs.Description.{over, foreign_of, refers_of, total_of}
 use Rattle.model.specs.Tables.{Row, Tables, State, rows_of, seen, same, at}
 use Rattle.model.specs.Listed.{listed}

@@ -7,7 +7,7 @@ use mathlib.Core.List.{List, [], ◌∷◌}
 use mathlib.Core.Option.{Option, none, some}
 use Rattle.model.specs.declared.Description.{Description}
 use Rattle.model.specs.declared.Fault.{Fault}
-use Rattle.model.specs.declared.Answer.TheVariants as Answers
+use Rattle.std.specs.Prelude.{Ok, Err}
 use Rattle.model.specs.Description.{over, in_range}
 use Rattle.model.specs.Tables.{rows_of}
 use Rattle.model.specs.Buffers.{holding, state_of}
@@ -57,7 +57,7 @@ module _ {o : Option Fault} {a : Test} (e : a ≡ test_of o) where
 
 -- the fault of a test that failed is answered, and every cell stays
 pub failed-answer : {d : Description} {c n : ℕ} {E : Effect} {vs cs : List ℕ} {tests : List (Bool × Fault)} {a : Test} {f : Fault}
-    → a ≡ ended tests → a ≡ Tests.Failed f → Answered d c tests n E vs cs vs cs (Answers.Refused f)
+    → a ≡ ended tests → a ≡ Tests.Failed f → Answered d c tests n E vs cs vs cs (Err f)
 failed-answer e p = refuses _ (failed-by e p) refl refl refl
 
 -- ---- tests that INSERT and UPDATE have

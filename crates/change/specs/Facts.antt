@@ -7,8 +7,8 @@ use Rattle.bounded.specs.Lists.{write_at}
 use Rattle.level.specs.Order.{order_of}
 use Rattle.model.specs.declared.Description.{Description}
 use Rattle.model.specs.declared.Fault.{Fault}
-use Rattle.model.specs.declared.Answer.{Answer}
-use Rattle.model.specs.declared.Answer.TheVariants as Answers
+use Rattle.std.specs.Prelude.{Ok, Err}
+use Rattle.model.specs.Answers.{Answer}
 use Rattle.model.specs.Description.{is_relation, row_count, total_of, sound}
 use Rattle.model.specs.Tables.{State, rows_of, seen}
 use Rattle.model.specs.Buffers.{holding, state_of}
@@ -62,8 +62,8 @@ pub record Filled (n : ℕ) (f : ℕ → ℕ) (numbers : List ℕ) : Type 0 wher
 
 -- the first test that fails is answered and every cell stays; where none fails, the count is answered and the tables are what the effect leaves
 pub data Answered (d : Description) (c : ℕ) (tests : List (Bool × Fault)) (count : ℕ) (E : Effect) (vs cs vs' cs' : List ℕ) (a : Answer) : Type 0 where
-  refuses : (f : Fault) → first_fault tests ≡ some f → a ≡ Answers.Refused f → vs' ≡ vs → cs' ≡ cs → Answered d c tests count E vs cs vs' cs' a
-  does : first_fault tests ≡ none → a ≡ Answers.Done count → state_of d (holding vs' cs') ≡ left d c (some E) (state_of d (holding vs cs)) → Answered d c tests count E vs cs vs' cs' a
+  refuses : (f : Fault) → first_fault tests ≡ some f → a ≡ Err f → vs' ≡ vs → cs' ≡ cs → Answered d c tests count E vs cs vs' cs' a
+  does : first_fault tests ≡ none → a ≡ Ok count → state_of d (holding vs' cs') ≡ left d c (some E) (state_of d (holding vs cs)) → Answered d c tests count E vs cs vs' cs' a
 
 -- the rows at c that meet the conditions
 unfoldable pub met_rows : Description → ℕ → ℕ → List ℕ → State → ℕ
@@ -89,8 +89,8 @@ Uplevels d c r key class list vs cs =
 
 -- the first test that fails is answered and every cell stays; where none fails, the rows are counted and written
 pub data Showed (tests : List (Bool × Fault)) (rows : List Shown) (shown owners shown' owners' : List ℕ) (a : Answer) : Type 0 where
-  refuses : (f : Fault) → first_fault tests ≡ some f → a ≡ Answers.Refused f → shown' ≡ shown → owners' ≡ owners → Showed tests rows shown owners shown' owners' a
-  shows : first_fault tests ≡ none → a ≡ Answers.Done (length rows) → shown' ≡ write_at 0 (values_shown rows) shown → owners' ≡ write_at 0 (owners_shown rows) owners
+  refuses : (f : Fault) → first_fault tests ≡ some f → a ≡ Err f → shown' ≡ shown → owners' ≡ owners → Showed tests rows shown owners shown' owners' a
+  shows : first_fault tests ≡ none → a ≡ Ok (length rows) → shown' ≡ write_at 0 (values_shown rows) shown → owners' ≡ write_at 0 (owners_shown rows) owners
       → Showed tests rows shown owners shown' owners' a
 
 abbrev pub Selects : Description → ℕ → ℕ → List ℕ → List ℕ → List ℕ → List ℕ → List ℕ → List ℕ → List ℕ → List ℕ → Answer → Type 0

@@ -15,7 +15,7 @@ use Rattle.bounded.proofs.Any.{any-cong}
 use Rattle.bounded.proofs.Cases.{cases}
 use Rattle.bounded.proofs.Reflection.{of-true}
 use Rattle.model.specs.declared.Description.{Description}
-use Rattle.model.specs.declared.Answer.TheVariants as Answers
+use Rattle.std.specs.Prelude.{Ok, Err}
 use Rattle.model.specs.Description.{between, over, row_count, column_count, foreign_of, refers_of}
 use Rattle.model.specs.Tables.{Cell, State, rows_of, nocell, norow, seek, at}
 use Rattle.model.specs.Buffers.{holding, state_of}
@@ -165,5 +165,5 @@ module _ {d : Description} {order : List (List Bool)} {r c : ℕ} {p : Part} {vs
       ∙ ap (deleted d c r conditions) (sym (own-seen K))
 
   pub delete-done : first_fault (delete_tests d c r conditions (sight d c vs cs)) ≡ none → {count : ℕ} → Counted p.rows chosen count → {us ds : List ℕ}
-      → state_of d (holding us ds) ≡ left d c (some (empty_chosen d c r chosen (T c).rows)) T → Deletes d c r conditions vs cs us ds (Answers.Done count)
-  delete-done n C m = does n (ap Answers.Done (counted K conditions M C)) (m ∙ ap (λ (E : Effect). left d c (some E) T) effect_is)
+      → state_of d (holding us ds) ≡ left d c (some (empty_chosen d c r chosen (T c).rows)) T → Deletes d c r conditions vs cs us ds (Ok count)
+  delete-done n C m = does n (ap Ok (counted K conditions M C)) (m ∙ ap (λ (E : Effect). left d c (some E) T) effect_is)

@@ -13,7 +13,7 @@ use borrow.Author.Tests.{eq-eqb, ne_eqb, eqb-true, ltb-true}
 use Rattle.bounded.proofs.Cases.{cases, clash}
 use Rattle.bounded.proofs.Reflection.{is_false, of-true, of-false, bool-r, not-r, and_r, eqb-r}
 use Rattle.model.specs.declared.Description.{Description}
-use Rattle.model.specs.declared.Answer.TheVariants as Answers
+use Rattle.std.specs.Prelude.{Ok, Err}
 use Rattle.model.specs.Description.{between, is_column, column_count, in_range}
 use Rattle.model.specs.Tables.{Row, State, rows_of, cell, nocell, own_null, used, at}
 use Rattle.model.specs.Buffers.{Buffers, holding, inside, state_of}
@@ -188,7 +188,7 @@ module _ {d : Description} {order : List (List Bool)} {r c : ℕ} {p : Part} {vs
     pub insert-done : first_fault (insert_tests d c r list seeing) ≡ none → {news owners us ds : List ℕ} → Filled p.columns (value_listed list) news
         → Filled p.columns (λ k. (new_row d c r list k).class) owners
         → state_of d (holding us ds) ≡ change_level c (with_row (column_count d r) r row (listed_row news owners)) T
-        → Inserts d c r list vs cs us ds (Answers.Done 1)
+        → Inserts d c r list vs cs us ds (Ok 1)
     insert-done n {news} {owners} F G m =
         does n refl
         (m

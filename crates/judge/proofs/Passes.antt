@@ -16,7 +16,8 @@ use Rattle.bounded.proofs.Cases.{cases, clash}
 use Rattle.bounded.proofs.First.{first-before, first_cong}
 use Rattle.bounded.proofs.All.{all-at, all_of}
 use Rattle.model.specs.declared.Description.{Description}
-use Rattle.model.specs.declared.Verdict.TheVariants as Verdicts
+use Rattle.std.specs.Prelude.{Ok, Err}
+use Rattle.model.specs.declared.Fault.TheVariants as Faults
 use Rattle.model.specs.Description.{column_count, row_count, refers_of, start_of, total_of, sound}
 use Rattle.model.specs.Tables.{Cell, Tables, cell, used, place}
 use Rattle.model.specs.Buffers.{holding, fitting, position_of, rows_in, state_of}
@@ -176,25 +177,25 @@ unfolding tables_right relation_right state_of legal
 tables-legal d vs cs = refl
 
 module _ (d : Description) (vs cs : List ℕ) {s : Bool} (x : s ≡ sound d) where
-  pub judge-unsound : s ≡ false → Verdicts.Description ≡ judge d (lending (holding vs cs))
+  pub judge-unsound : s ≡ false → (Err Faults.Description) ≡ judge d (lending (holding vs cs))
   unfolding judge
   judge-unsound t = rw (← x, t)
 
   module _ (t : s ≡ true) {n : ℕ} (y : n ≡ total_of d) where
-    pub judge-values : length vs ≢ n → Verdicts.Length ≡ judge d (lending (holding vs cs))
+    pub judge-values : length vs ≢ n → (Err Faults.Length) ≡ judge d (lending (holding vs cs))
     unfolding judge lent_fits fitting
     judge-values e = rw (← x, t, ← y, ne_eqb (length vs) n e)
 
     module _ (e : length vs ≡ n) where
-      pub judge-classes : length cs ≢ n → Verdicts.Length ≡ judge d (lending (holding vs cs))
+      pub judge-classes : length cs ≢ n → (Err Faults.Length) ≡ judge d (lending (holding vs cs))
       unfolding judge lent_fits fitting
       judge-classes f = rw (← x, t, ← y, eq-eqb (length vs) n e, ne_eqb (length cs) n f)
 
       module _ (f : length cs ≡ n) {g : Bool} (z : g ≡ legal d (state_of d (holding vs cs))) where
-        pub judge-illegal : g ≡ false → Verdicts.Illegal ≡ judge d (lending (holding vs cs))
+        pub judge-illegal : g ≡ false → (Err Faults.Illegal) ≡ judge d (lending (holding vs cs))
         unfolding judge lent_fits fitting pages_of legal_pages
         judge-illegal q = rw (← x, t, ← y, eq-eqb (length vs) n e, eq-eqb (length cs) n f, ← z, q)
 
-        pub judge-legal : g ≡ true → Verdicts.Legal ≡ judge d (lending (holding vs cs))
+        pub judge-legal : g ≡ true → (Ok tt) ≡ judge d (lending (holding vs cs))
         unfolding judge lent_fits fitting pages_of legal_pages
         judge-legal q = rw (← x, t, ← y, eq-eqb (length vs) n e, eq-eqb (length cs) n f, ← z, q)

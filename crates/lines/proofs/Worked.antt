@@ -5,7 +5,7 @@ use mathlib.Core.List.{[], ◌∷◌}
 use native.Mathlib.Omega.{arith}
 use Rattle.bounded.specs.Lists.{concat_below}
 use Rattle.model.specs.declared.What.TheVariants as Whats
-use Rattle.model.specs.declared.Answer.TheVariants as Answers
+use Rattle.std.specs.Prelude.{Ok, Err}
 use Rattle.model.specs.declared.Fault.TheVariants as Faults
 use Rattle.model.specs.Numbers.{fault_number, answer_number, count_of}
 use Rattle.lines.specs.Text.{digit, digits_in, decimal}
@@ -30,22 +30,22 @@ largest = turns 9 4294967295 (omega arith)
 -- ---- lines
 
 -- a 16 0 1
-inserted : answer_text Whats.Insert (Answers.Done 1) 2 [] [] ≡ 97 ∷ 32 ∷ 49 ∷ 54 ∷ 32 ∷ 48 ∷ 32 ∷ 49 ∷ 10 ∷ []
+inserted : answer_text Whats.Insert (Ok 1) 2 [] [] ≡ 97 ∷ 32 ∷ 49 ∷ 54 ∷ 32 ∷ 48 ∷ 32 ∷ 49 ∷ 10 ∷ []
 unfolding answer_text answer_line row_lines kind_of answer_number count_of decimal digits_in digit
 inserted = refl
 
 -- a 19 0 1
-raised : answer_text (Whats.Uplevel 7 255) (Answers.Done 1) 2 [] [] ≡ 97 ∷ 32 ∷ 49 ∷ 57 ∷ 32 ∷ 48 ∷ 32 ∷ 49 ∷ 10 ∷ []
+raised : answer_text (Whats.Uplevel 7 255) (Ok 1) 2 [] [] ≡ 97 ∷ 32 ∷ 49 ∷ 57 ∷ 32 ∷ 48 ∷ 32 ∷ 49 ∷ 10 ∷ []
 unfolding answer_text answer_line row_lines kind_of answer_number count_of decimal digits_in digit
 raised = refl
 
 -- a 17 12 0: a refusal has count 0
-deleted : answer_text Whats.Delete (Answers.Refused Faults.Referred) 2 [] [] ≡ 97 ∷ 32 ∷ 49 ∷ 55 ∷ 32 ∷ 49 ∷ 50 ∷ 32 ∷ 48 ∷ 10 ∷ []
+deleted : answer_text Whats.Delete (Err Faults.Referred) 2 [] [] ≡ 97 ∷ 32 ∷ 49 ∷ 55 ∷ 32 ∷ 49 ∷ 50 ∷ 32 ∷ 48 ∷ 10 ∷ []
 unfolding answer_text answer_line row_lines kind_of answer_number fault_number count_of decimal digits_in digit
 deleted = refl
 
 -- a 20 0 2, then r 0 7/0 20/0 and r 1 7/0 20/0
-selected : answer_text Whats.Select (Answers.Done 2) 2 (7 ∷ 20 ∷ 7 ∷ 20 ∷ []) (0 ∷ 0 ∷ 0 ∷ 0 ∷ 0 ∷ 1 ∷ []) ≡ 97 ∷ 32 ∷ 50 ∷ 48 ∷ 32 ∷ 48 ∷ 32 ∷ 50 ∷ 10 ∷ 114 ∷ 32 ∷ 48 ∷ 32 ∷ 55 ∷ 47 ∷ 48 ∷ 32 ∷ 50 ∷ 48 ∷ 47 ∷ 48 ∷ 10 ∷ 114 ∷ 32 ∷ 49 ∷ 32 ∷ 55 ∷ 47 ∷ 48 ∷ 32 ∷ 50 ∷ 48 ∷ 47 ∷ 48 ∷ 10 ∷ []
+selected : answer_text Whats.Select (Ok 2) 2 (7 ∷ 20 ∷ 7 ∷ 20 ∷ []) (0 ∷ 0 ∷ 0 ∷ 0 ∷ 0 ∷ 1 ∷ []) ≡ 97 ∷ 32 ∷ 50 ∷ 48 ∷ 32 ∷ 48 ∷ 32 ∷ 50 ∷ 10 ∷ 114 ∷ 32 ∷ 48 ∷ 32 ∷ 55 ∷ 47 ∷ 48 ∷ 32 ∷ 50 ∷ 48 ∷ 47 ∷ 48 ∷ 10 ∷ 114 ∷ 32 ∷ 49 ∷ 32 ∷ 55 ∷ 47 ∷ 48 ∷ 32 ∷ 50 ∷ 48 ∷ 47 ∷ 48 ∷ 10 ∷ []
 unfolding answer_text answer_line row_lines kind_of answer_number count_of row_line cell_text class_text decimal digits_in digit concat_below
 selected = refl
 

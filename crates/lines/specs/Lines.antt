@@ -1,10 +1,11 @@
 -- The lines that are printed (01, "mlrun"), in ASCII bytes.
 -- Assumes nothing: these are definitions.
+use Rattle.std.specs.Prelude.{Ok, Err}
+use Rattle.model.specs.Answers.{Answer}
 use Rattle.std.specs.Prelude.{ℕ, ◌+◌, ◌*◌, List, [], ◌∷◌, ◌++◌, eqb, get_or, if◌then◌else◌}
 use Rattle.bounded.specs.Lists.{concat_below}
 use Rattle.model.specs.declared.What.{What}
 use Rattle.model.specs.declared.What.TheVariants as Whats
-use Rattle.model.specs.declared.Answer.{Answer}
 use Rattle.model.specs.Numbers.{answer_number, count_of}
 use Rattle.lines.specs.Text.{decimal}
 

@@ -5,7 +5,7 @@ use mathlib.Core.List.{List, [], ◌∷◌, ◌++◌}
 use Prim.Native.Nat.{ℕ}
 use lib.ListN.{replicate, set}
 use Rattle.model.specs.declared.Description.{Description}
-use Rattle.model.specs.declared.Answer.TheVariants as Answers
+use Rattle.std.specs.Prelude.{Ok, Err}
 use Rattle.model.specs.declared.Fault.TheVariants as Faults
 use Rattle.model.specs.Tables.{Cell, cell, nocell}
 use Rattle.model.specs.Run.{Reply}
@@ -121,7 +121,7 @@ pub selected-in-order
     : ran heights (laid_out ladder) (select_at 0 1 (3 ∷ 0 ∷ 2 ∷ 1 ∷ []) [] (replicate 16 99) (replicate 21 98))
     ≡ record {
       reply = record {
-        answer = Answers.Done 5;
+        answer = Ok 5;
         shown = 12 ∷ 6 ∷ 0 ∷ 11 ∷ 7 ∷ 0 ∷ 22 ∷ 8 ∷ 0 ∷ 21 ∷ 9 ∷ 0 ∷ 30 ∷ 5 ∷ 0 ∷ 99 ∷ [];
         owners = replicate 8 1 ++ replicate 4 2 ++ replicate 4 3 ++ replicate 4 0 ++ (98 ∷ []);
       };
@@ -133,7 +133,7 @@ selected-in-order = refl
 -- "none listed: c alone"
 pub selected-at-own-level
     : (ran heights (laid_out ladder) (select_at 0 1 [] [] (replicate 3 99) (replicate 4 98))).reply
-    ≡ record { answer = Answers.Done 1; shown = 30 ∷ 5 ∷ 0 ∷ []; owners = replicate 4 0 }
+    ≡ record { answer = Ok 1; shown = 30 ∷ 5 ∷ 0 ∷ []; owners = replicate 4 0 }
 unfolding computed
 selected-at-own-level = refl
 
@@ -141,11 +141,11 @@ selected-at-own-level = refl
 abbrev selecting : ℕ → ℕ → Reply
 selecting shown owners = (ran heights (laid_out ladder) (select_at 0 1 [] [] (replicate shown 99) (replicate owners 98))).reply
 
-pub values-one-short : selecting 2 4 ≡ record { answer = Answers.Refused Faults.Short; shown = replicate 2 99; owners = replicate 4 98 }
+pub values-one-short : selecting 2 4 ≡ record { answer = Err Faults.Short; shown = replicate 2 99; owners = replicate 4 98 }
 unfolding computed
 values-one-short = refl
 
-pub owners-one-short : selecting 3 3 ≡ record { answer = Answers.Refused Faults.Short; shown = replicate 3 99; owners = replicate 3 98 }
+pub owners-one-short : selecting 3 3 ≡ record { answer = Err Faults.Short; shown = replicate 3 99; owners = replicate 3 98 }
 unfolding computed
 owners-one-short = refl
 

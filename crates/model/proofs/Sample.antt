@@ -4,7 +4,7 @@ use mathlib.Core.Path.{◌≡◌, refl}
 use mathlib.Core.List.{[], ◌∷◌}
 use lib.ListN.{replicate}
 use Rattle.model.specs.declared.Description.{Description}
-use Rattle.model.specs.declared.Answer.TheVariants as Answers
+use Rattle.std.specs.Prelude.{Ok}
 use Rattle.model.specs.Tables.{cell, nocell}
 use Rattle.model.proofs.Computed.{computed}
 use Rattle.model.proofs.Build.{insert_at, uplevel_at, select_at, laid_out, lent, last}
@@ -31,7 +31,7 @@ pub sample
     (uplevel_at 1 1 7 255 (2 ∷ 0 ∷ []) ∷ select_at 1 1 (1 ∷ 0 ∷ []) [] (replicate 5 9) (replicate 7 8) ∷ [])
     ≡ record {
       reply = record {
-        answer = Answers.Done 2;
+        answer = Ok 2;
         shown = 7 ∷ 20 ∷ 7 ∷ 20 ∷ 9 ∷ [];
         owners = 0 ∷ 0 ∷ 0 ∷ 0 ∷ 0 ∷ 1 ∷ 8 ∷ [];
       };

@@ -3,8 +3,9 @@
 use Rattle.std.specs.Prelude.{ℕ, suc, Bool, not, ◌&&◌, ◌||◌, eqb, if◌then◌else◌}
 use Rattle.bounded.specs.Bounded.{all_below}
 use Rattle.model.specs.declared.Description.{Description}
-use Rattle.model.specs.declared.Verdict.{Verdict}
-use Rattle.model.specs.declared.Verdict.TheVariants as Verdicts
+use Rattle.std.specs.Prelude.{Ok, Err}
+use Rattle.model.specs.Answers.{Verdict}
+use Rattle.model.specs.declared.Fault.TheVariants as Faults
 use Rattle.model.specs.Description.{over, column_count, row_count, foreign_of, refers_of, in_range, sound}
 use Rattle.model.specs.Tables.{Cell, Row, Tables, nocell, same, used, empty_row, place, at, lends, State, rows_of}
 use Rattle.model.specs.Ledger.{Ledger, Pages, cells_of, lent_fits, pages_of}
@@ -42,7 +43,7 @@ legal_pages d P = legal d (cells_of P)
 -- "a judge of tables (0 for legal, else the least of 1 to 3)"
 unfoldable pub judge : Description → Ledger → Verdict
 judge d b =
-    if not (sound d) then Verdicts.Description
-    else if not (lent_fits d b) then Verdicts.Length
-    else if not (legal_pages d (pages_of d b)) then Verdicts.Illegal
-    else Verdicts.Legal
+    if not (sound d) then (Err Faults.Description)
+    else if not (lent_fits d b) then (Err Faults.Length)
+    else if not (legal_pages d (pages_of d b)) then (Err Faults.Illegal)
+    else (Ok tt)

@@ -3,10 +3,8 @@
 use Rattle.std.specs.Prelude.{ℕ}
 use Rattle.model.specs.declared.Fault.{Fault}
 use Rattle.model.specs.declared.Fault.TheVariants as Faults
-use Rattle.model.specs.declared.Answer.{Answer}
-use Rattle.model.specs.declared.Answer.TheVariants as Answers
-use Rattle.model.specs.declared.Verdict.{Verdict}
-use Rattle.model.specs.declared.Verdict.TheVariants as Verdicts
+use Rattle.std.specs.Prelude.{Ok, Err}
+use Rattle.model.specs.Answers.{Answer, Verdict}
 
 unfoldable pub fault_number : Fault → ℕ
 -- "the description breaks a limit, a label or relation is not as above, or L is not dominated by H"
@@ -40,17 +38,15 @@ fault_number Faults.Short = 14
 
 unfoldable pub answer_number : Answer → ℕ
 -- "done"
-answer_number (Answers.Done count) = 0
-answer_number (Answers.Refused fault) = fault_number fault
+answer_number (Ok count) = 0
+answer_number (Err fault) = fault_number fault
 
 unfoldable pub count_of : Answer → ℕ
-count_of (Answers.Done count) = count
+count_of (Ok count) = count
 -- "Each refusal has count 0"
-count_of (Answers.Refused fault) = 0
+count_of (Err fault) = 0
 
 -- "a judge of tables (0 for legal, else the least of 1 to 3)"
 unfoldable pub verdict_number : Verdict → ℕ
-verdict_number Verdicts.Legal = 0
-verdict_number Verdicts.Description = 1
-verdict_number Verdicts.Length = 2
-verdict_number Verdicts.Illegal = 3
+verdict_number (Ok legal) = 0
+verdict_number (Err fault) = fault_number fault

@@ -11,8 +11,8 @@ use Rattle.model.specs.declared.What.{What}
 use Rattle.model.specs.declared.What.TheVariants as Whats
 use Rattle.model.specs.declared.Fault.{Fault}
 use Rattle.model.specs.declared.Fault.TheVariants as Faults
-use Rattle.model.specs.declared.Answer.{Answer}
-use Rattle.model.specs.declared.Answer.TheVariants as Answers
+use Rattle.std.specs.Prelude.{Ok, Err}
+use Rattle.model.specs.Answers.{Answer}
 use Rattle.model.specs.Description.{is_level, is_relation, row_count, sound}
 use Rattle.model.specs.Tables.{State, rows_of, seen}
 use Rattle.model.specs.Ledger.{Ledger, Pages, cells_of, lent_fits, pages_of, ledger_of}
@@ -144,14 +144,14 @@ pub record Outcome : Type 0 where
 
 -- "Each refusal has count 0 and changes no buffer."
 unfoldable pub refused : Request → Fault → Reply
-refused q fault = record { answer = Answers.Refused fault; shown = q.shown; owners = q.owners }
+refused q fault = record { answer = Err fault; shown = q.shown; owners = q.owners }
 
 -- the rows shown stand "from their starts; cells past the last row written stay"
 unfoldable pub done : Description → Request → State → Reply
 done d q S =
     let rows = shown_as d q q.statement.what S in
     record {
-      answer = Answers.Done (count_as d q q.statement.what S);
+      answer = Ok (count_as d q q.statement.what S);
       shown = write_at 0 (values_shown rows) q.shown;
       owners = write_at 0 (owners_shown rows) q.owners;
     }

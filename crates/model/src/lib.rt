@@ -59,18 +59,8 @@ pub enum Fault {
     Short,
 }
 
-// What one call is answered.
-#[derive(Clone, Copy)]
-pub enum Answer {
-    Done { count: u32 },
-    Refused(Fault),
-}
+// What one call is answered: the count of what was done, or why it is refused.
+pub type Answer = Result<u32, Fault>;
 
-// What the judge of tables says.
-#[derive(Clone, Copy)]
-pub enum Verdict {
-    Legal,
-    Description,
-    Length,
-    Illegal,
-}
+// What the judge of tables says: legal, or the first of what is wrong.
+pub type Verdict = Result<(), Fault>;

@@ -12,8 +12,8 @@ use Rattle.model.specs.declared.What.{What}
 use Rattle.model.specs.declared.What.TheVariants as Whats
 use Rattle.model.specs.declared.Fault.{Fault}
 use Rattle.model.specs.declared.Fault.TheVariants as Faults
-use Rattle.model.specs.declared.Answer.{Answer}
-use Rattle.model.specs.declared.Answer.TheVariants as Answers
+use Rattle.std.specs.Prelude.{Ok, Err}
+use Rattle.model.specs.Answers.{Answer}
 use Rattle.model.specs.Description.{sound}
 use Rattle.model.specs.Tables.{State, seen}
 use Rattle.model.specs.Buffers.{holding, fitting, state_of, buffers_of}
@@ -58,13 +58,13 @@ module _ (d : Description) (b : Ledger) (q : Request) where
 
   -- ---- what comes out
 
-  pub refusal-out : (x : Fault) {a : Answer} → refusal d b q ≡ some x → a ≡ Answers.Refused x
+  pub refusal-out : (x : Fault) {a : Answer} → refusal d b q ≡ some x → a ≡ Err x
       → outcome a b.tables.values b.tables.classes q.shown q.owners ≡ run d b q
   unfolding refused
   refusal-out x e h = rw h (sym (run-refused d b q e))
 
   pub done-out : {vs cs shown owners : List ℕ} {a : Answer} → refusal d b q ≡ none
-      → a ≡ Answers.Done (count_as d q q.statement.what (seen d (subject q) (cells_of (pages_of d b))))
+      → a ≡ Ok (count_as d q q.statement.what (seen d (subject q) (cells_of (pages_of d b))))
       → shown ≡ write_at 0 (values_shown (shown_as d q q.statement.what (seen d (subject q) (cells_of (pages_of d b))))) q.shown
       → owners ≡ write_at 0 (owners_shown (shown_as d q q.statement.what (seen d (subject q) (cells_of (pages_of d b))))) q.owners
       → lending (holding vs cs) ≡ ledger_of d (after d q (pages_of d b))
@@ -88,7 +88,7 @@ module _ (d : Description) (order : List (List Bool)) (vs cs : List ℕ) (q : Re
   abbrev b : Ledger
   b = lending (holding vs cs)
 
-  pub malformed-out : formed d q ≡ false → outcome (Answers.Refused Faults.Malformed) vs cs q.shown q.owners ≡ run d b q
+  pub malformed-out : formed d q ≡ false → outcome (Err Faults.Malformed) vs cs q.shown q.owners ≡ run d b q
   malformed-out m =
       refusal-out d b q Faults.Malformed (malformed-refused d b q j.ordering.sound-is (lent_fits_lem d vs cs j.fits) (lent-legal d vs cs j.legal-is) m) refl
 

@@ -8,8 +8,8 @@ use Rattle.bounded.specs.Lists.{write_at}
 use Rattle.model.specs.declared.Description.{Description}
 use Rattle.model.specs.declared.Statement.{Statement}
 use Rattle.model.specs.declared.Fault.{Fault}
-use Rattle.model.specs.declared.Answer.{Answer}
-use Rattle.model.specs.declared.Answer.TheVariants as Answers
+use Rattle.std.specs.Prelude.{Ok, Err}
+use Rattle.model.specs.Answers.{Answer}
 use Rattle.model.specs.Description.{is_level, is_relation}
 use Rattle.model.specs.Buffers.{holding, state_of}
 use Rattle.model.specs.Ledger.{lending}
@@ -61,10 +61,10 @@ Runs d statement list conditions values classes shown owners answer =
 -- a statement that is well formed is carried out on the tables' cells: the first of its own tests that fails is answered and every buffer
 -- stays; where none fails, its count is answered, the cells are what it leaves, and the rows that it shows are written
 pub data Carried (d : Description) (q : Request) (vs cs : List ℕ) (a : Answer) (vs' cs' shown' owners' : List ℕ) : Type 0 where
-  refuses : (f : Fault) → first_fault (further d q q.statement.what (sight d (subject q) vs cs)) ≡ some f → a ≡ Answers.Refused f
+  refuses : (f : Fault) → first_fault (further d q q.statement.what (sight d (subject q) vs cs)) ≡ some f → a ≡ Err f
       → vs' ≡ vs → cs' ≡ cs → shown' ≡ q.shown → owners' ≡ q.owners → Carried d q vs cs a vs' cs' shown' owners'
   does : first_fault (further d q q.statement.what (sight d (subject q) vs cs)) ≡ none
-      → a ≡ Answers.Done (count_as d q q.statement.what (sight d (subject q) vs cs))
+      → a ≡ Ok (count_as d q q.statement.what (sight d (subject q) vs cs))
       → state_of d (holding vs' cs') ≡ left d (subject q) (effect_as d q q.statement.what (sight d (subject q) vs cs)) (state_of d (holding vs cs))
       → shown' ≡ write_at 0 (values_shown (shown_as d q q.statement.what (sight d (subject q) vs cs))) q.shown
       → owners' ≡ write_at 0 (owners_shown (shown_as d q q.statement.what (sight d (subject q) vs cs))) q.owners

@@ -12,8 +12,8 @@ use borrow.Author.Tests.{le-leb, lt-leb}
 use Rattle.bounded.proofs.Reflection.{of-true}
 use Rattle.model.specs.declared.Description.{Description}
 use Rattle.model.specs.declared.Fault.TheVariants as Faults
-use Rattle.model.specs.declared.Answer.{Answer}
-use Rattle.model.specs.declared.Answer.TheVariants as Answers
+use Rattle.std.specs.Prelude.{Ok, Err}
+use Rattle.model.specs.Answers.{Answer}
 use Rattle.model.specs.Description.{over}
 use Rattle.model.specs.Tables.{State}
 use Rattle.model.specs.Buffers.{holding, state_of}
@@ -44,13 +44,13 @@ module _ (d : Description) (r : ℕ) (q : List ℕ) (S : State) (v : Levels) {p 
   owners-are = rw (count, laid.columns) (found-in-wide d r q S v).owners
 
   module _ (shown owners : List ℕ) where
-    pub short-values : length shown < n * p.columns → Filled (found_in d r q S v) shown owners shown owners (Answers.Refused Faults.Short)
+    pub short-values : length shown < n * p.columns → Filled (found_in d r q S v) shown owners shown owners (Err Faults.Short)
     unfolding fits
     short-values h =
         short (rw (lt-leb (length (values_shown (found_in d r q S v))) (length shown) (rw values-are h))) refl refl refl
 
     module _ (roomy : n * p.columns ≤ length shown) where
-      pub short-owners : length owners < n * (p.columns + 1) → Filled (found_in d r q S v) shown owners shown owners (Answers.Refused Faults.Short)
+      pub short-owners : length owners < n * (p.columns + 1) → Filled (found_in d r q S v) shown owners shown owners (Err Faults.Short)
       unfolding fits
       short-owners h =
           short (rw (le-leb (length (values_shown (found_in d r q S v))) (length shown) (rw values-are roomy), lt-leb (length (owners_shown (found_in d r q S v))) (length owners) (rw owners-are h))) refl refl refl
@@ -59,11 +59,11 @@ module _ (d : Description) (r : ℕ) (q : List ℕ) (S : State) (v : Levels) {p 
         pub room-found : Room (found_in d r q S v) start (length shown) (length owners)
         room-found = record { values = omega (arith, values-are); owners = omega (arith, owners-are) }
 
-        pub full-found : {shown' owners' : List ℕ} → Stands (found_in d r q S v) shown owners shown' owners' → Filled (found_in d r q S v) shown owners shown' owners' (Answers.Done n)
+        pub full-found : {shown' owners' : List ℕ} → Stands (found_in d r q S v) shown owners shown' owners' → Filled (found_in d r q S v) shown owners shown' owners' (Ok n)
         unfolding fits
         full-found w =
             full (rw (le-leb (length (values_shown (found_in d r q S v))) (length shown) (rw values-are roomy), le-leb (length (owners_shown (found_in d r q S v))) (length owners) (rw owners-are wide)))
-            (ap Answers.Done count) w
+            (ap Ok count) w
 
 -- the products are small
 module _ {d : Description} {r : ℕ} {p : Part} (laid : Laid d r p) where
@@ -119,7 +119,7 @@ module _ {d : Description} {order : List (List Bool)} {r c : ℕ} {p : Part} {vs
   -- ---- what is answered
 
   module _ (list q shown owners : List ℕ) {b : Bool} (e : b ≡ each_level (over d c) list) where
-    pub unseen : b ≡ false → Selects d c r list q vs cs shown owners shown owners (Answers.Refused Faults.Unseen)
+    pub unseen : b ≡ false → Selects d c r list q vs cs shown owners shown owners (Err Faults.Unseen)
     unseen f = refuses Faults.Unseen (first-unseen d c r list q shown owners (sight d c vs cs) (sym e ∙ f)) refl refl refl
 
     module _ (t : b ≡ true) {v : Levels} (h : Holds (shown_levels d c list) v) where

@@ -9,8 +9,8 @@ use mathlib.Core.Option.{Option, none, some}
 use native.Mathlib.Omega.{arith}
 use Rattle.level.proofs.Settled.{Settled}
 use Rattle.model.specs.declared.Fault.{Fault}
-use Rattle.model.specs.declared.Answer.{Answer}
-use Rattle.model.specs.declared.Answer.TheVariants as Answers
+use Rattle.std.specs.Prelude.{Ok, Err}
+use Rattle.model.specs.Answers.{Answer}
 use Rattle.model.specs.Select.{Shown}
 use Rattle.change.specs.Facts.{Showed, refuses, shows}
 use Rattle.select.proofs.formed.Reads as formed
@@ -26,7 +26,7 @@ pub record One (a b : Answer) (shown owners shown' owners' : List ℕ) : Type 0 
   pub values-is : shown ≡ shown'
   pub owners-is : owners ≡ owners'
 
-same_answer : {o : Option Fault} {f g : Fault} {a b : Answer} → o ≡ some f → o ≡ some g → a ≡ Answers.Refused f → b ≡ Answers.Refused g → a ≡ b
+same_answer : {o : Option Fault} {f g : Fault} {a b : Answer} → o ≡ some f → o ≡ some g → a ≡ Err f → b ≡ Err g → a ≡ b
 same_answer p q x y = cc
 
 never : {o : Option Fault} {f : Fault} → o ≡ some f → o ≡ none → ⊥

@@ -4,8 +4,8 @@ use Rattle.std.specs.Prelude.{◌≡◌, Bool, true, false, ◌&&◌, List, [], 
 use Rattle.bounded.specs.Lists.{list_below, concat_below, write_at}
 use Rattle.model.specs.declared.Description.{Description}
 use Rattle.model.specs.declared.Fault.TheVariants as Faults
-use Rattle.model.specs.declared.Answer.{Answer}
-use Rattle.model.specs.declared.Answer.TheVariants as Answers
+use Rattle.std.specs.Prelude.{Ok, Err}
+use Rattle.model.specs.Answers.{Answer}
 use Rattle.model.specs.Description.{height_at, column_count}
 use Rattle.model.specs.Tables.{Row, State}
 use Rattle.model.specs.Select.{Shown, asked, found_at, values_shown, owners_shown}
@@ -95,5 +95,5 @@ fits rows shown owners = leb (length (values_shown rows)) (length shown) && leb 
 
 -- the rows are counted and written where they fit, and every cell stays where they don't
 pub data Filled (rows : List Shown) (shown owners shown' owners' : List ℕ) (a : Answer) : Type 0 where
-  short : fits rows shown owners ≡ false → a ≡ Answers.Refused Faults.Short → shown' ≡ shown → owners' ≡ owners → Filled rows shown owners shown' owners' a
-  full : fits rows shown owners ≡ true → a ≡ Answers.Done (length rows) → Stands rows shown owners shown' owners' → Filled rows shown owners shown' owners' a
+  short : fits rows shown owners ≡ false → a ≡ Err Faults.Short → shown' ≡ shown → owners' ≡ owners → Filled rows shown owners shown' owners' a
+  full : fits rows shown owners ≡ true → a ≡ Ok (length rows) → Stands rows shown owners shown' owners' → Filled rows shown owners shown' owners' a

@@ -1,8 +1,9 @@
 -- What the functions that write rows promise: shown and owners before, shown' and owners' after, the tables in values and classes.
 -- Assumes nothing: these are statements.
+use Rattle.std.specs.Prelude.{Ok, Err}
+use Rattle.model.specs.Answers.{Answer}
 use Rattle.std.specs.Prelude.{ℕ, Bool, List}
 use Rattle.model.specs.declared.Description.{Description}
-use Rattle.model.specs.declared.Answer.{Answer}
 use Rattle.model.specs.Buffers.{holding, state_of}
 use Rattle.model.specs.Select.{found_at}
 use Rattle.select.specs.declared.At.{At}

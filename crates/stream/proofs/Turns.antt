@@ -1,5 +1,7 @@
 -- What a record leaves, case by case, from the facts that the functions have.
 -- Assumes nothing.
+use Rattle.std.specs.Prelude.{Ok, Err}
+use Rattle.model.specs.Answers.{Answer}
 use Prim.Native.Nat.{ℕ, ◌<◌, ◌≤◌, min}
 use mathlib.Core.Path.{◌≡◌, refl, sym, ap, subst, ◌∙◌}
 use mathlib.Core.Bool.{Bool, true, false}
@@ -11,7 +13,6 @@ use borrow.Author.Tests.{ne_eqb}
 use Rattle.bounded.proofs.Cases.{cases, clash, and_left, and-false-right}
 use Rattle.model.specs.declared.Description.{Description}
 use Rattle.model.specs.declared.Statement.{Statement}
-use Rattle.model.specs.declared.Answer.{Answer}
 use Rattle.model.specs.Description.{column_count, total_of, sound}
 use Rattle.model.specs.Buffers.{Buffers, holding, fitting}
 use Rattle.model.specs.Ledger.{lending}

@@ -11,8 +11,8 @@ use Rattle.bounded.proofs.Cases.{cases}
 use Rattle.bounded.proofs.Reflection.{is_true, of-true, of-false, and_r, eqb-r, reflects-as}
 use Rattle.model.specs.declared.Description.{Description}
 use Rattle.model.specs.declared.Fault.{Fault}
-use Rattle.model.specs.declared.Verdict.{Verdict}
-use Rattle.model.specs.declared.Verdict.TheVariants as Verdicts
+use Rattle.std.specs.Prelude.{Ok, Err}
+use Rattle.model.specs.Answers.{Verdict}
 use Rattle.model.specs.Description.{sound, total_of}
 use Rattle.model.specs.Tables.{seen}
 use Rattle.model.specs.Buffers.{fitting}
@@ -28,7 +28,6 @@ use Rattle.theory.proofs.Judged.{judged, legal-framed}
 use Rattle.theory.proofs.State.{fault, acts, step, reply}
 use Rattle.theory.proofs.Tests.{passed}
 use Rattle.theory.proofs.Steps.{step-legal}
-use Rattle.model.specs.declared.Answer.TheVariants as Answers
 
 -- ---- the judge
 
@@ -62,7 +61,7 @@ pub record Judged (d : Description) (b : Ledger) : Type 0 where
 pub yes-says : (d : Description) (b : Ledger) → Yes d b → Judged d b
 yes-says d b e = go (judge-legal d b) e
   where
-    go : {v : Verdict} → Says d b v → v ≡ Verdicts.Legal → Judged d b
+    go : {v : Verdict} → Says d b v → v ≡ (Ok tt) → Judged d b
     go (is-legal s f g) e = record { sound = s; lengths = f; legal = g }
     go (not_sound s) e = absurd (let z : ◌≡◌ {A = ℕ} 0 1 = cc in omega arith)
     go (not-long s f) e = absurd (let z : ◌≡◌ {A = ℕ} 0 1 = cc in omega arith)
@@ -94,7 +93,7 @@ unfolding run
 run-done d b q e = rw (e, run)
 
 -- a request that is done is made on legal tables
-pub done-says : (d : Description) (b : Ledger) (q : Request) {count : ℕ} → (hears d q b).answer ≡ Answers.Done count → Yes d b × (fault d q (pages_of d b) ≡ none)
+pub done-says : (d : Description) (b : Ledger) (q : Request) {count : ℕ} → (hears d q b).answer ≡ Ok count → Yes d b × (fault d q (pages_of d b) ≡ none)
 unfolding refusal judge fault refused
 done-says d b q {count} h = go (refusal d b q) refl
   where

@@ -7,7 +7,7 @@ use mathlib.Core.Bool.{true, false≢true}
 use Prim.Native.Nat.{ℕ}
 use mathlib.Core.List.{[], ◌∷◌}
 use lib.ListN.{replicate}
-use Rattle.model.specs.declared.Answer.TheVariants as Answers
+use Rattle.std.specs.Prelude.{Ok, Err}
 use Rattle.model.specs.declared.Fault.TheVariants as Faults
 use Rattle.model.specs.Description.{sound}
 use Rattle.model.specs.Tables.{Cell, cell, at}
@@ -73,7 +73,7 @@ start-stays = stays-legal five start one_side start-legal
 abbrev short : Request
 short = select_at 1 1 (0 ∷ 1 ∷ []) [] (replicate 6 9) (replicate 7 8)
 
-pub short-refused : (hears five short start).answer ≡ Answers.Refused Faults.Short
+pub short-refused : (hears five short start).answer ≡ Err Faults.Short
 unfolding computed
 short-refused = refl
 
@@ -85,7 +85,7 @@ short-keeps = refusal-keeps five start short Faults.Short short-refused
 abbrev borrowing : Request
 borrowing = uplevel_at 3 1 7 255 (2 ∷ 2 ∷ [])
 
-pub borrowing-done : (hears five borrowing (laid five (X no₁ no₂ no₂))).answer ≡ Answers.Done 1
+pub borrowing-done : (hears five borrowing (laid five (X no₁ no₂ no₂))).answer ≡ Ok 1
 unfolding computed
 borrowing-done = refl
 

@@ -4,7 +4,7 @@ use Prim.Native.Nat.{ℕ}
 use mathlib.Core.Path.{◌≡◌, refl}
 use mathlib.Core.List.{[]}
 use native.Mathlib.Omega.{arith}
-use Rattle.model.specs.declared.Answer.TheVariants as Answers
+use Rattle.std.specs.Prelude.{Ok, Err}
 use Rattle.model.specs.Tables.{cell}
 use Rattle.model.specs.Ledger.{Ledger}
 use Rattle.model.specs.Run.{Request}
@@ -22,7 +22,7 @@ referred = laid five (X row₁ ref no₂)
 abbrev lowest : Request
 lowest = delete_at 0 1 (key 7)
 
-pub lowest-done : (hears five lowest referred).answer ≡ Answers.Done 1
+pub lowest-done : (hears five lowest referred).answer ≡ Ok 1
 unfolding computed
 lowest-done = refl
 
@@ -60,7 +60,7 @@ lending = laid five (X row₁ no₂ no₂)
 abbrev lender : Request
 lender = delete_at 1 1 []
 
-pub lender-done : (hears five lender lending).answer ≡ Answers.Done 1
+pub lender-done : (hears five lender lending).answer ≡ Ok 1
 unfolding computed
 lender-done = refl
 

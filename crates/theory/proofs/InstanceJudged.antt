@@ -4,7 +4,8 @@ use mathlib.Core.Path.{◌≡◌, refl}
 use mathlib.Core.List.{List, [], ◌∷◌, ◌++◌}
 use lib.ListN.{replicate}
 use Rattle.model.specs.declared.Description.{Description}
-use Rattle.model.specs.declared.Verdict.TheVariants as Verdicts
+use Rattle.std.specs.Prelude.{Ok, Err}
+use Rattle.model.specs.declared.Fault.TheVariants as Faults
 use Rattle.model.specs.Tables.{Cell, cell, nocell}
 use Rattle.model.specs.Judge.{judge}
 use Rattle.model.proofs.Computed.{computed}
@@ -19,18 +20,18 @@ illegal = X (one nocell (cell 5 3) nocell) no₂ no₂
 abbrev unsound : Description
 unsound = described (0 ∷ 1 ∷ 2 ∷ 3 ∷ 259 ∷ []) (replicate 81 4) (replicate 81 0)
 
-pub says-legal : judge five (laid five (X row₁ no₂ no₂)) ≡ Verdicts.Legal
+pub says-legal : judge five (laid five (X row₁ no₂ no₂)) ≡ (Ok tt)
 unfolding computed
 says-legal = refl
 
-pub says-illegal : judge five (laid five illegal) ≡ Verdicts.Illegal
+pub says-illegal : judge five (laid five illegal) ≡ (Err Faults.Illegal)
 unfolding computed
 says-illegal = refl
 
-pub says-length : judge five (laid five (illegal ++ ((nocell ∷ []) ∷ []))) ≡ Verdicts.Length
+pub says-length : judge five (laid five (illegal ++ ((nocell ∷ []) ∷ []))) ≡ (Err Faults.Length)
 unfolding computed
 says-length = refl
 
-pub says-description : judge unsound (laid unsound illegal) ≡ Verdicts.Description
+pub says-description : judge unsound (laid unsound illegal) ≡ (Err Faults.Description)
 unfolding computed
 says-description = refl

@@ -5,7 +5,7 @@ use mathlib.Core.Path.{◌≡◌, refl}
 use mathlib.Core.Bool.{true, false}
 use mathlib.Core.List.{[], ◌∷◌}
 use native.Mathlib.Omega.{arith}
-use Rattle.model.specs.declared.Answer.TheVariants as Answers
+use Rattle.std.specs.Prelude.{Ok, Err}
 use Rattle.model.specs.declared.Fault.TheVariants as Faults
 use Rattle.model.specs.Ledger.{Ledger}
 use Rattle.model.specs.Run.{Request, all_tests}
@@ -32,7 +32,7 @@ pub reference-applies : Test (all_tests five stored twofold) 6 false Faults.Refe
 unfolding computed entry_at
 reference-applies = refl
 
-pub taken-given : (hears five twofold stored).answer ≡ Answers.Refused Faults.Taken
+pub taken-given : (hears five twofold stored).answer ≡ Err Faults.Taken
 unfolding computed
 taken-given = refl
 
@@ -47,7 +47,7 @@ taken-less = (least-given five stored twofold).rise 5 6 false false Faults.Taken
 abbrev passing : Request
 passing = insert_at 1 2 (1 ∷ 51 ∷ 2 ∷ 7 ∷ [])
 
-pub passing-done : (hears five passing stored).answer ≡ Answers.Done 1
+pub passing-done : (hears five passing stored).answer ≡ Ok 1
 unfolding computed
 passing-done = refl
 

@@ -7,7 +7,7 @@ use mathlib.Core.List.{List, [], ◌∷◌}
 use lib.ListN.{replicate}
 use Rattle.bounded.proofs.Cases.{or_true_right}
 use Rattle.model.specs.declared.Description.{Description}
-use Rattle.model.specs.declared.Answer.TheVariants as Answers
+use Rattle.std.specs.Prelude.{Ok, Err}
 use Rattle.model.specs.Description.{over}
 use Rattle.model.specs.Tables.{Cell, cell}
 use Rattle.model.specs.Ledger.{Ledger}
@@ -77,7 +77,7 @@ in-turn = from-right (from-left (from-right (from-left (from-right (from-left fi
 -- ---- all are done, and level 5 has another value in relation 1 and has lost its row of relation 2
 
 abbrev done-with : ℕ → List ℕ → List ℕ → Reply
-done-with count shown owners = record { answer = Answers.Done count; shown = shown; owners = owners }
+done-with count shown owners = record { answer = Ok count; shown = shown; owners = owners }
 
 pub ones-hear : firsts (leaves forked) (hears forked) in_order_lem begun
     ≡ done-with 1 [] [] ∷ done-with 1 [] []

@@ -14,8 +14,8 @@ use Rattle.model.specs.declared.Description.{Description}
 use Rattle.model.specs.declared.What.{What}
 use Rattle.model.specs.declared.What.TheVariants as Whats
 use Rattle.model.specs.declared.Fault.{Fault}
-use Rattle.model.specs.declared.Answer.{Answer}
-use Rattle.model.specs.declared.Answer.TheVariants as Answers
+use Rattle.std.specs.Prelude.{Ok, Err}
+use Rattle.model.specs.Answers.{Answer}
 use Rattle.model.specs.Numbers.{fault_number, answer_number}
 use Rattle.model.specs.Ledger.{Ledger, cells_of, pages_of}
 use Rattle.model.specs.Insert.{insert_tests}
@@ -118,8 +118,8 @@ module _ (d : Description) (b : Ledger) (q : Request) where
 
   -- the answer is that of the first test that fails, or every test holds
   data Heard : Answer → Type 0 where
-    at_first : (fault : Fault) → First (all_tests d b q) fault → Heard (Answers.Refused fault)
-    all_held : (count : ℕ) → ((n : ℕ) (x : Bool) (fault : Fault) → Test (all_tests d b q) n x fault → x ≡ true) → Heard (Answers.Done count)
+    at_first : (fault : Fault) → First (all_tests d b q) fault → Heard (Err fault)
+    all_held : (count : ℕ) → ((n : ℕ) (x : Bool) (fault : Fault) → Test (all_tests d b q) n x fault → x ≡ true) → Heard (Ok count)
 
   heard : Heard (hears d q b).answer
   unfolding refusal refused done
@@ -142,7 +142,7 @@ module _ (d : Description) (b : Ledger) (q : Request) where
       rise : (m n : ℕ) (x y : Bool) (fault other : Fault) → m < n → Test (all_tests d b q) m x fault → Test (all_tests d b q) n y other → number_of fault < number_of other
       rise = rises 0 (all_tests d b q) (ap (rising_from 0) numbers ∙ for-each q.statement.what)
 
-      first : {a : Answer} → Heard a → (fault : Fault) → a ≡ Answers.Refused fault → First (all_tests d b q) fault
+      first : {a : Answer} → Heard a → (fault : Fault) → a ≡ Err fault → First (all_tests d b q) fault
       first (all_held count h) fault e = absurd (let z : ◌≡◌ {A = ℕ} 0 1 = cc in omega arith)
       first (at_first x f) fault e = let p : x ≡ fault = cc in rw (← p) f
 
@@ -154,7 +154,7 @@ module _ (d : Description) (b : Ledger) (q : Request) where
           (λ p. let z : number_of answered ≡ number_of fault = ap number_of (fault-is (sym f.fails ∙ ap (entry_at (all_tests d b q)) (sym p) ∙ e)) in omega (arith, z))
           (λ l. let z : number_of answered < number_of fault = rise f.place n false false answered fault l f.fails e in omega (arith, z))
 
-      all_done : {a : Answer} → Heard a → (count : ℕ) → a ≡ Answers.Done count → (n : ℕ) (x : Bool) (fault : Fault) → Test (all_tests d b q) n x fault → x ≡ true
+      all_done : {a : Answer} → Heard a → (count : ℕ) → a ≡ Ok count → (n : ℕ) (x : Bool) (fault : Fault) → Test (all_tests d b q) n x fault → x ≡ true
       all_done (all_held _ h) count e = h
       all_done (at_first x f) count e = absurd (let z : ◌≡◌ {A = ℕ} 0 1 = cc in omega arith)
 

@@ -38,7 +38,7 @@ use Rattle.theory.proofs.State.{fault, step}
 use Rattle.theory.proofs.Steps.{Passed, all-passed}
 use Rattle.theory.proofs.Calls.{Judged, yes-says, reply-done, step-refused, step-done, hears-is, leaves-pages}
 use Rattle.model.specs.declared.What.TheVariants as Whats
-use Rattle.model.specs.declared.Answer.TheVariants as Answers
+use Rattle.std.specs.Prelude.{Ok, Err}
 
 module _ (d : Description) (q : Request) (P : Pages) where
   abbrev S : State
@@ -196,7 +196,7 @@ trust-is-named d b q y r l i k n v m = by (fault d q (pages_of d b)) refl
         same = sym (leaves-pages d b q y ∙ step-refused d q (pages_of d b) e)
     by none e = go (subst (λ (P : Pages). From d q (pages_of d b) r l k (rows_of (cells_of P) r l i)) (sym (leaves-pages d b q y)) (trust d q (pages_of d b) (sound-laws d j.sound) j.legal r l i k n) v m)
       where
-        answer : (hears d q b).answer ≡ Answers.Done (count_as d q q.statement.what (seen d (subject q) (cells_of (pages_of d b))))
+        answer : (hears d q b).answer ≡ Ok (count_as d q q.statement.what (seen d (subject q) (cells_of (pages_of d b))))
         answer = ap (λ (h : Reply). h.answer) (hears-is d b q y ∙ reply-done d q (pages_of d b) e)
 
         go : {e : Cell} {a : ℕ} → Whence d q (pages_of d b) r l e k a → Said e a

@@ -6,9 +6,9 @@ use Rattle.model.specs.declared.Description.{Description}
 use Rattle.model.specs.declared.What.{What}
 use Rattle.model.specs.declared.What.TheVariants as Whats
 use Rattle.model.specs.declared.Fault.{Fault}
-use Rattle.model.specs.declared.Answer.TheVariants as Answers
-use Rattle.model.specs.declared.Verdict.{Verdict}
-use Rattle.model.specs.declared.Verdict.TheVariants as Verdicts
+use Rattle.std.specs.Prelude.{Ok, Err}
+use Rattle.model.specs.Answers.{Verdict}
+use Rattle.model.specs.declared.Fault.TheVariants as Faults
 use Rattle.model.specs.Numbers.{answer_number, count_of}
 use Rattle.model.specs.Description.{over, foreign_of, refers_of, total_of, sound}
 use Rattle.model.specs.Tables.{Cell, Tables, cell, nocell, rows_of, seen, at}
@@ -26,7 +26,7 @@ use Rattle.theory.specs.Queues.{Merge, Each, SameRun}
 
 -- the judge says yes
 abbrev pub Yes : Description → Ledger → Type 0
-Yes d b = judge d b ≡ Verdicts.Legal
+Yes d b = judge d b ≡ (Ok tt)
 
 -- the tables that a ledger holds
 abbrev pub tables : Description → Ledger → Tables
@@ -57,10 +57,10 @@ pub record Lengths (d : Description) (b : Ledger) : Type 0 where
 
 -- what a verdict says: each is given exactly where it applies and none before it does
 pub data Says (d : Description) (b : Ledger) : Verdict → Type 0 where
-  is-legal : sound d ≡ true → Lengths d b → LegalPages d (pages_of d b) → Says d b Verdicts.Legal
-  not_sound : sound d ≡ false → Says d b Verdicts.Description
-  not-long : sound d ≡ true → (Lengths d b → ⊥) → Says d b Verdicts.Length
-  not-legal : sound d ≡ true → Lengths d b → (LegalPages d (pages_of d b) → ⊥) → Says d b Verdicts.Illegal
+  is-legal : sound d ≡ true → Lengths d b → LegalPages d (pages_of d b) → Says d b (Ok tt)
+  not_sound : sound d ≡ false → Says d b (Err Faults.Description)
+  not-long : sound d ≡ true → (Lengths d b → ⊥) → Says d b (Err Faults.Length)
+  not-legal : sound d ≡ true → Lengths d b → (LegalPages d (pages_of d b) → ⊥) → Says d b (Err Faults.Illegal)
 
 abbrev pub JudgeLegal : Type 0
 JudgeLegal = (d : Description) (b : Ledger) → Says d b (judge d b)
@@ -79,7 +79,7 @@ pub record Kept (d : Description) (b : Ledger) (q : Request) : Type 0 where
   pub owners : (hears d q b).owners ≡ q.owners
 
 abbrev pub RefusalKeeps : Type 0
-RefusalKeeps = (d : Description) (b : Ledger) (q : Request) (fault : Fault) → (hears d q b).answer ≡ Answers.Refused fault → Kept d b q
+RefusalKeeps = (d : Description) (b : Ledger) (q : Request) (fault : Fault) → (hears d q b).answer ≡ Err fault → Kept d b q
 
 -- ---- least-given
 
@@ -88,7 +88,7 @@ abbrev pub Test : List (Bool × Fault) → ℕ → Bool → Fault → Type 0
 Test tests place holds fault = entry_at tests place ≡ some (holds, fault)
 
 abbrev pub number_of : Fault → ℕ
-number_of fault = answer_number (Answers.Refused fault)
+number_of fault = answer_number (Err fault)
 
 -- the numbers that 01's table has for each kind of statement
 unfoldable pub numbers_for : What → List ℕ
@@ -111,11 +111,11 @@ pub record LeastGiven (d : Description) (b : Ledger) (q : Request) : Type 0 wher
   pub rise : (m n : ℕ) (x y : Bool) (fault other : Fault) → m < n → Test (all_tests d b q) m x fault → Test (all_tests d b q) n y other
       → number_of fault < number_of other
   -- the fault that is answered is the first in the list whose test fails
-  pub first : (fault : Fault) → (hears d q b).answer ≡ Answers.Refused fault → First (all_tests d b q) fault
+  pub first : (fault : Fault) → (hears d q b).answer ≡ Err fault → First (all_tests d b q) fault
   -- no test that fails has a lesser number than the one answered
   pub least : (n : ℕ) (fault : Fault) → Test (all_tests d b q) n false fault → answer_number (hears d q b).answer ≤ number_of fault
   -- where the statement is done, every test holds
-  pub done : (count : ℕ) → (hears d q b).answer ≡ Answers.Done count
+  pub done : (count : ℕ) → (hears d q b).answer ≡ Ok count
       → (n : ℕ) (holds : Bool) (fault : Fault) → Test (all_tests d b q) n holds fault → holds ≡ true
 
 abbrev pub LeastIsGiven : Type 0
@@ -154,7 +154,7 @@ Silent d b r entity k a = (v : ℕ) → v ≢ 0 → at d (tables d b) r a entity
 
 abbrev pub SilenceShows : Type 0
 SilenceShows =
-    (d : Description) (b : Ledger) (q : Request) (entity : Cell) (k a count : ℕ) → (hears d q b).answer ≡ Answers.Done count → Lists d b q entity k a
+    (d : Description) (b : Ledger) (q : Request) (entity : Cell) (k a count : ℕ) → (hears d q b).answer ≡ Ok count → Lists d b q entity k a
     → Silent d b (relation q) entity k a
     → (at d (tables d (leaves d q b)) (relation q) (subject q) entity.value 1 ≡ entity)
     × (at d (tables d (leaves d q b)) (relation q) (subject q) entity.value k ≡ cell 0 a)
@@ -214,7 +214,7 @@ pub record DeleteSaid (d : Description) (b : Ledger) (q : Request) : Type 0 wher
 
 abbrev pub DeleteAsSaid : Type 0
 DeleteAsSaid =
-    (d : Description) (b : Ledger) (q : Request) (count : ℕ) → q.statement.what ≡ Whats.Delete → (hears d q b).answer ≡ Answers.Done count
+    (d : Description) (b : Ledger) (q : Request) (count : ℕ) → q.statement.what ≡ Whats.Delete → (hears d q b).answer ≡ Ok count
     → DeleteSaid d b q
 
 -- ---- trust-is-named
@@ -230,7 +230,7 @@ pub record Named (d : Description) (b : Ledger) (q : Request) (r l : ℕ) (entit
   pub level : subject q ≡ l
   pub within : relation q ≡ r
   pub lists : Lists d b q entity k a
-  pub done : (hears d q b).answer ≡ Answers.Done 1
+  pub done : (hears d q b).answer ≡ Ok 1
 
 abbrev pub TrustIsNamed : Type 0
 TrustIsNamed =

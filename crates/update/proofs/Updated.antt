@@ -18,7 +18,7 @@ use Rattle.bounded.proofs.First.{first_holds}
 use Rattle.bounded.proofs.Cases.{cases}
 use Rattle.bounded.proofs.Reflection.{is_false, of-true, of-false, bool-r, not-r, and_r, eqb-r}
 use Rattle.model.specs.declared.Description.{Description}
-use Rattle.model.specs.declared.Answer.TheVariants as Answers
+use Rattle.std.specs.Prelude.{Ok, Err}
 use Rattle.model.specs.Description.{between, distinct_below, over, is_column, row_count, column_count}
 use Rattle.model.specs.Tables.{Row, State, rows_of}
 use Rattle.model.specs.Buffers.{holding, state_of}
@@ -190,5 +190,5 @@ module _ {d : Description} {order : List (List Bool)} {r c : ℕ} {p : Part} {vs
       ∙ ap (updated d c r list conditions) (sym (own-seen K))
 
   pub update-done : first_fault (update_tests d c r list conditions (sight d c vs cs)) ≡ none → {count : ℕ} → Counted p.rows chosen count → {us ds : List ℕ}
-      → state_of d (holding us ds) ≡ left d c (some (set_chosen d c r list chosen (T c).rows)) T → Updates d c r list conditions vs cs us ds (Answers.Done count)
-  update-done n C m = does n (ap Answers.Done (counted K conditions M C)) (m ∙ ap (λ (E : Effect). left d c (some E) T) effect_is)
+      → state_of d (holding us ds) ≡ left d c (some (set_chosen d c r list chosen (T c).rows)) T → Updates d c r list conditions vs cs us ds (Ok count)
+  update-done n C m = does n (ap Ok (counted K conditions M C)) (m ∙ ap (λ (E : Effect). left d c (some E) T) effect_is)

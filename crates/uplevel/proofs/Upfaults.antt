@@ -13,8 +13,8 @@ use Rattle.bounded.proofs.Cases.{cases, and_left, and_right}
 use Rattle.model.specs.declared.Description.{Description}
 use Rattle.model.specs.declared.Fault.{Fault}
 use Rattle.model.specs.declared.Fault.TheVariants as Faults
-use Rattle.model.specs.declared.Answer.{Answer}
-use Rattle.model.specs.declared.Answer.TheVariants as Answers
+use Rattle.std.specs.Prelude.{Ok, Err}
+use Rattle.model.specs.Answers.{Answer}
 use Rattle.model.specs.Description.{over, in_range, row_count}
 use Rattle.model.specs.Numbers.{fault_number}
 use Rattle.model.specs.Tables.{Cell, State, Tables, cell, same, used, rows_of, seen, at}
@@ -140,7 +140,7 @@ module _ (d : Description) (vs cs : List ℕ) (c r key class : ℕ) (list : List
 -- ---- one test before others
 
 module _ {d : Description} {c n : ℕ} {E : Effect} {vs cs : List ℕ} (f : Fault) (ts : List (Bool × Fault)) {b : Bool} where
-  pub test-fails : b ≡ false → Answered d c ((b, f) ∷ ts) n E vs cs vs cs (Answers.Refused f)
+  pub test-fails : b ≡ false → Answered d c ((b, f) ∷ ts) n E vs cs vs cs (Err f)
   test-fails e = refuses f (first-fails f ts e) refl refl refl
 
   pub test-passes : {vs' cs' : List ℕ} {a : Answer} → b ≡ true → Answered d c ts n E vs cs vs' cs' a → Answered d c ((b, f) ∷ ts) n E vs cs vs' cs' a
@@ -162,12 +162,12 @@ module _ (d : Description) (c r key class own : ℕ) (list vs cs : List ℕ) whe
   Admitted = Answered d c (entity_tests d c r class (cell key own) list seeing) 1 (uplevelled d c r (cell key own) list (rows_of seeing)) vs cs
 
   module _ {b : Bool} (x : b ≡ based d c r key (rows_of seeing) own) where
-    pub absent-answer : b ≡ false → Admitted vs cs (Answers.Refused Faults.Absent)
+    pub absent-answer : b ≡ false → Admitted vs cs (Err Faults.Absent)
     unfolding entity_tests
     absent-answer t = test-fails Faults.Absent _ (sym x ∙ t)
 
     module _ (t : b ≡ true) {s : Bool} (y : s ≡ several_based d c r key class (rows_of seeing)) where
-      pub several-answer : s ≡ true → Admitted vs cs (Answers.Refused Faults.Several)
+      pub several-answer : s ≡ true → Admitted vs cs (Err Faults.Several)
       unfolding entity_tests
       several-answer u = test-passes Faults.Absent _ (sym x ∙ t) (test-fails Faults.Several _ (ap not (sym y ∙ u)))
 
@@ -216,7 +216,7 @@ module _ (d : Description) (c r key class : ℕ) (list vs cs : List ℕ) {b : Bo
   abbrev T : State
   T = sight d c vs cs
 
-  pub unseen-answer : b ≡ false → Uplevels d c r key class list vs cs vs cs (Answers.Refused Faults.Unseen)
+  pub unseen-answer : b ≡ false → Uplevels d c r key class list vs cs vs cs (Err Faults.Unseen)
   unseen-answer t = rw (tests-are d c r key class list T) (test-fails Faults.Unseen _ (sym x ∙ t))
 
   module _ (t : b ≡ true) {h : Bool} (y : h ≡ each (rule_of d r Rules.Lends) list) where
@@ -224,7 +224,7 @@ module _ (d : Description) (c r key class : ℕ) (list vs cs : List ℕ) {b : Bo
     unfolding rule_of
     range-is = sym y
 
-    pub range-answer : h ≡ false → Uplevels d c r key class list vs cs vs cs (Answers.Refused Faults.Range)
+    pub range-answer : h ≡ false → Uplevels d c r key class list vs cs vs cs (Err Faults.Range)
     range-answer u = rw (tests-are d c r key class list T) (test-passes Faults.Unseen _ (sym x ∙ t) (test-fails Faults.Range _ (range-is ∙ u)))
 
     entity-answer : {vs' cs' : List ℕ} {a : Answer} → h ≡ true → (e : Cell) → entity_of d c r key class (rows_of T) ≡ e

@@ -3,8 +3,8 @@
 use Rattle.std.specs.Prelude.{ℕ, ◌<◌, ◌≡◌, Bool, true, List, ◌≢◌, length}
 use Rattle.std.proofs.Math.Option.{some}
 use Rattle.model.specs.declared.Description.{Description}
-use Rattle.model.specs.declared.Answer.{Answer}
-use Rattle.model.specs.declared.Answer.TheVariants as Answers
+use Rattle.std.specs.Prelude.{Ok, Err}
+use Rattle.model.specs.Answers.{Answer}
 use Rattle.model.specs.Description.{row_count, column_count}
 use Rattle.model.specs.Tables.{Cell, rows_of, at}
 use Rattle.model.specs.Buffers.{holding, state_of}
@@ -53,7 +53,7 @@ Replaces d r c i there news vs cs vs' cs' =
 -- one row is counted, and the tables are what the effect leaves
 abbrev pub Effects : Description → ℕ → ℕ → Cell → List ℕ → List ℕ → List ℕ → List ℕ → List ℕ → Answer → Type 0
 Effects d c r entity list vs cs vs' cs' a =
-    (a ≡ Answers.Done 1) × (state_of d (holding vs' cs') ≡ left d c (some (uplevelled d c r entity list (rows_of (sight d c vs cs)))) (state_of d (holding vs cs)))
+    (a ≡ Ok 1) × (state_of d (holding vs' cs') ≡ left d c (some (uplevelled d c r entity list (rows_of (sight d c vs cs)))) (state_of d (holding vs cs)))
 
 -- ---- the statement
 
