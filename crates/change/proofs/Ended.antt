@@ -16,48 +16,46 @@ use Rattle.model.specs.Effect.{Effect}
 use Rattle.model.specs.Insert.{listed_names}
 use Rattle.asked.specs.declared.pairs.Rule.TheVariants as Rules
 use Rattle.asked.specs.Facts.{rule_of}
-use Rattle.change.specs.declared.tests.Test.{Test}
-use Rattle.change.specs.declared.tests.Test.TheVariants as Tests
 use Rattle.change.specs.Facts.{Answered, refuses, sight}
-use Rattle.change.specs.Tests.{test_of, ended}
+use Rattle.change.specs.Tests.{Test, test_of, ended}
 use Rattle.change.proofs.Answers.{first-fails, first_passes, first-none, listed-seen}
 
 -- ---- the links
 
 module _ (f : Fault) (ts : List (Bool × Fault)) {a : Bool} where
-  pub fails : a ≡ false → Tests.Failed f ≡ ended ((a, f) ∷ ts)
+  pub fails : a ≡ false → Err f ≡ ended ((a, f) ∷ ts)
   unfolding test_of
   fails t = sym (ap test_of (first-fails f ts t))
 
   pub passes : {r : Test} → a ≡ true → r ≡ ended ts → r ≡ ended ((a, f) ∷ ts)
   passes t p = p ∙ sym (ap test_of (first_passes f ts t))
 
-pub no_more : Tests.Passed ≡ ended []
+pub no_more : Ok tt ≡ ended []
 unfolding test_of
 no_more = sym (ap test_of first-none)
 
 -- ---- how they ended
 
 module _ {o : Option Fault} {a : Test} (e : a ≡ test_of o) where
-  pub failed-by : {f : Fault} → a ≡ Tests.Failed f → o ≡ some f
+  pub failed-by : {f : Fault} → a ≡ Err f → o ≡ some f
   unfolding test_of
   failed-by {f} p = go o (sym e ∙ p)
     where
-      go : (o : Option Fault) → test_of o ≡ Tests.Failed f → o ≡ some f
+      go : (o : Option Fault) → test_of o ≡ Err f → o ≡ some f
       go none q = cc
       go (some g) q = cc
 
-  pub passed-by : a ≡ Tests.Passed → o ≡ none
+  pub passed-by : a ≡ Ok tt → o ≡ none
   unfolding test_of
   passed-by p = go o (sym e ∙ p)
     where
-      go : (o : Option Fault) → test_of o ≡ Tests.Passed → o ≡ none
+      go : (o : Option Fault) → test_of o ≡ Ok tt → o ≡ none
       go none q = refl
       go (some g) q = cc
 
 -- the fault of a test that failed is answered, and every cell stays
 pub failed-answer : {d : Description} {c n : ℕ} {E : Effect} {vs cs : List ℕ} {tests : List (Bool × Fault)} {a : Test} {f : Fault}
-    → a ≡ ended tests → a ≡ Tests.Failed f → Answered d c tests n E vs cs vs cs (Err f)
+    → a ≡ ended tests → a ≡ Err f → Answered d c tests n E vs cs vs cs (Err f)
 failed-answer e p = refuses _ (failed-by e p) refl refl refl
 
 -- ---- tests that INSERT and UPDATE have

@@ -1,5 +1,4 @@
-// What the five statements share: how tests end, the rows that references name, and what each statement promises.
+// What the five statements share: the rows that references name, and what each statement promises.
 #![tactic(auto)]
 
 pub mod named;
-pub mod tests;

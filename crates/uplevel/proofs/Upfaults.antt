@@ -28,7 +28,6 @@ use Rattle.asked.specs.declared.pairs.Rule.TheVariants as Rules
 use Rattle.asked.specs.Facts.{rule_of}
 use Rattle.theory.proofs.Tests.{pass}
 use Rattle.theory.proofs.Seen.{seen_at, seen-own}
-use Rattle.change.specs.declared.tests.Test.TheVariants as Tests
 use Rattle.change.specs.Facts.{Answered, refuses, does, sight, Uplevels}
 use Rattle.change.specs.Tests.{test_of}
 use Rattle.uplevel.specs.Raising.{class_seen, levels_seen, later_tests, several_based, entity_tests, spot_of}
@@ -102,7 +101,7 @@ module _ (d : Description) (vs cs : List ℕ) (c r key class : ℕ) (list : List
   full-test = rw (seen_at d S c r c key o, seen-own d S c o, ← (entity-is d vs cs r c key class nz e)) (sym (spot-room d r here (S c).rows))
 
   module _ {a : Bool} (x : a ≡ (not (ltb here (row_count d r)) && ltb (key_place d vs r c key) (row_count d r))) where
-    pub taken-ends : a ≡ true → Tests.Failed Faults.Taken ≡ test_of (first_fault tests)
+    pub taken-ends : a ≡ true → Err Faults.Taken ≡ test_of (first_fault tests)
     unfolding later_tests test_of
     taken-ends t = sym (ap test_of (first-fails Faults.Taken _ (taken-test ∙ rw (← x, t))))
 
@@ -111,12 +110,12 @@ module _ (d : Description) (vs cs : List ℕ) (c r key class : ℕ) (list : List
       unfolding later_tests rule_of
       past-taken = first_passes Faults.Taken _ (taken-test ∙ rw (← x, t)) ∙ rw (y, full-test)
 
-      pub class-ends : b ≡ false → Tests.Failed Faults.KeyClass ≡ test_of (first_fault tests)
+      pub class-ends : b ≡ false → Err Faults.KeyClass ≡ test_of (first_fault tests)
       unfolding test_of
       class-ends u = sym (ap test_of (past-taken ∙ first-fails Faults.KeyClass _ u))
 
       module _ (u : b ≡ true) {q : Bool} (z : q ≡ borrowed_names d c r (cell key class) list (rows_of (seen d c S))) where
-        pub reference-ends : q ≡ false → Tests.Failed Faults.Reference ≡ test_of (first_fault tests)
+        pub reference-ends : q ≡ false → Err Faults.Reference ≡ test_of (first_fault tests)
         unfolding test_of
         reference-ends v = sym (ap test_of (past-taken ∙ first_passes Faults.KeyClass _ u ∙ first-fails Faults.Reference _ (sym z ∙ v)))
 
@@ -124,11 +123,11 @@ module _ (d : Description) (vs cs : List ℕ) (c r key class : ℕ) (list : List
           past-names : first_fault tests ≡ first_fault ((ltb i (row_count d r), Faults.Full) ∷ [])
           past-names = past-taken ∙ first_passes Faults.KeyClass _ u ∙ first_passes Faults.Reference _ (sym z ∙ v) ∙ rw w
 
-          pub full-ends : row_count d r ≤ i → Tests.Failed Faults.Full ≡ test_of (first_fault tests)
+          pub full-ends : row_count d r ≤ i → Err Faults.Full ≡ test_of (first_fault tests)
           unfolding test_of
           full-ends h = sym (ap test_of (past-names ∙ first-fails Faults.Full _ (le-ltb i (row_count d r) h)))
 
-          pub passed-ends : i < row_count d r → Tests.Passed ≡ test_of (first_fault tests)
+          pub passed-ends : i < row_count d r → Ok tt ≡ test_of (first_fault tests)
           unfolding test_of first_fault
           passed-ends h = sym (ap test_of (past-names ∙ first_passes Faults.Full [] (lt-ltb i (row_count d r) h)))
 
