@@ -10,8 +10,7 @@ use lib.ListN.{get_or, get_or-eq_default}
 use Rattle.model.specs.declared.Description.{Description}
 use Rattle.model.specs.Description.{total_of, row_count, column_count, start_of}
 use Rattle.model.specs.Buffers.{position_of, in_order}
-use Rattle.cells.specs.declared.layout.Part.{Part}
-use Rattle.cells.specs.Layout.{Laid}
+use Rattle.cells.specs.Laid.{Laid}
 use Rattle.model.proofs.Border.{Inside, order-at, order-length}
 
 -- the place holds a number that is not what stands behind the end
@@ -51,16 +50,16 @@ position-one d r l i k s m j n h g e = record {
     by f = sym (order-at d f r l i k h) ∙ ap (λ (p : ℕ). get_or (in_order d f) p 0) e ∙ order-at d f s m j n g
 
 -- every number on the way to a place is small, and the place is the cell's
-pub record Small (d : Description) (r : ℕ) (p : Part) (l i k : ℕ) : Type 0 where
-  pub rows : l * p.rows + i < 8192
-  pub cells : (l * p.rows + i) * p.columns + (k - 1) < 8192
-  pub is : p.start + ((l * p.rows + i) * p.columns + (k - 1)) ≡ position_of d r l i k
+pub record Small (d : Description) (r s n m l i k : ℕ) : Type 0 where
+  pub rows : l * n + i < 8192
+  pub cells : (l * n + i) * m + (k - 1) < 8192
+  pub is : s + ((l * n + i) * m + (k - 1)) ≡ position_of d r l i k
   pub below : position_of d r l i k < total_of d
   pub total : total_of d ≤ 8192
 
-pub small : (d : Description) (r : ℕ) (p : Part) (l i k : ℕ) → Laid d r p → Inside d r l i k → Small d r p l i k
+pub small : (d : Description) (r s n m l i k : ℕ) → Laid d r s n m → Inside d r l i k → Small d r s n m l i k
 unfolding position_of
-small d r p l i k t h =
+small d r s n m l i k t h =
     let b : start_of d r + ((l * row_count d r + i) * column_count d r + pred k) < total_of d = position-below d r l i k h in
     let c : 1 ≤ column_count d r = omega (arith, h.least, h.column) in
     record {

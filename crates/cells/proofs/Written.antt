@@ -1,7 +1,8 @@
 -- A row written cell after cell, and what the rows of a level are to a search.
 -- Assumes nothing.
 use Rattle.std.specs.Prelude.{if◌then◌else◌}
-use Prim.Native.Nat.{ℕ, zero, suc, ◌+◌, ◌≤◌, ◌<◌}
+use Prim.Native.Nat.{ℕ, zero, suc, pred, ◌+◌, ◌≤◌, ◌<◌}
+use native.Mathlib.Numerals.{add-one}
 use mathlib.Core.Path.{◌≡◌, refl, sym, ap, ◌∙◌, fun_ext}
 use mathlib.Core.Bool.{Bool, true, false, ◌&&◌}
 use mathlib.Core.List.{List, [], ◌∷◌}
@@ -53,6 +54,11 @@ pub row_more : (l n r i : ℕ) (R : Row) (S₀ : State) {S S' : State} → S ≡
 row_more l n r i R S₀ p q =
     q ∙ (ap (change_level l (with_cell r i (n + 1) (R (n + 1)))) p
     ∙ (change-twice l (with_cell r i (n + 1) (R (n + 1))) (with_row n r i R) S₀ ∙ ap (λ (f : Level → Level). change_level l f S₀) (fun_ext (row-turn n r i R))))
+
+-- the same, where the next column is counted from 1
+pub row-next : (l k r i : ℕ) (R : Row) (S₀ : State) {S S' : State} → 1 ≤ k → S ≡ change_level l (with_row (pred k) r i R) S₀ → S' ≡ change_level l (with_cell r i k (R k)) S → S' ≡ change_level l (with_row k r i R) S₀
+row-next l zero r i R S₀ h p q = absurd (omega arith)
+row-next l (suc n) r i R S₀ h p q = rw (← add-one) (row_more l n r i R S₀ p (rw (← add-one) at q))
 
 pub row-end : (l n m r i : ℕ) (R : Row) (S₀ : State) {S : State} → S ≡ change_level l (with_row m r i R) S₀ → m ≡ n → S ≡ change_level l (with_row n r i R) S₀
 row-end l n m r i R S₀ {S} p e = rw e at p

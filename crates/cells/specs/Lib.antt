@@ -1,3 +1,4 @@
+pub mod Laid
 pub mod Layout
 pub mod Changed
 pub mod Stored

@@ -1,17 +1,20 @@
 // Where the cells of a relation stand in both buffers.
 ghost use Rattle.std.specs.Prelude.{◌≡◌, true};
 ghost use Rattle.model.specs.Description.{sound, is_relation, row_count, column_count, size_of, start_of};
-ghost use Rattle.model.specs.Buffers.{inside};
-ghost use Rattle.cells.specs.Layout.{Laid, Count, Placed};
+ghost use Rattle.cells.specs.Laid.{Laid, Count};
 
 use model::Description;
 
-// Where a relation's cells begin, and how many rows and columns it has.
+// A relation of a description: where its cells begin, and how many rows and columns it has. The description beside these numbers is never read
+// where cells are: it says in the contracts what they are.
 #[derive(Clone, Copy)]
 pub struct Part {
+    pub description: Description,
+    pub relation: usize,
     pub start: usize,
     pub rows: usize,
     pub columns: usize,
+    pub ghost laid: { Laid description relation start rows columns },
 }
 
 // How many rows a relation has at each level.
@@ -49,10 +52,8 @@ fn start(description: Description, relation: usize) -> usize
     ensures { result ≡ start_of description relation }
 {
     let mut start = 0;
-    let mut before = 1;
-    while before < relation {
+    for before in 1..relation {
         start += size(description, before);
-        before += 1;
     }
     start
 }
@@ -61,30 +62,14 @@ fn start(description: Description, relation: usize) -> usize
 pub fn lay(description: Description, relation: usize) -> Part
     requires sound_description { sound description ≡ true }
     requires known_relation { is_relation description relation ≡ true }
-    ensures { Laid description relation result }
+    ensures described { result.description ≡ description }
+    ensures of_relation { result.relation ≡ relation }
 {
     Part {
+        description,
+        relation,
         start: start(description, relation),
         rows: rows(description, relation),
         columns: columns(description, relation),
     }
-}
-
-// The place of a cell in both buffers.
-pub(crate) fn place(
-    description: Description,
-    relation: usize,
-    part: Part,
-    level: usize,
-    row: usize,
-    column: usize,
-) -> usize
-    requires laid { Laid description relation part }
-    requires cell_inside { inside description relation level row column ≡ true }
-    ensures { Placed description relation level row column result }
-{
-    let start = part.start;
-    let rows = part.rows;
-    let columns = part.columns;
-    start + ((level * rows + row) * columns + (column - 1))
 }

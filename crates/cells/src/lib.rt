@@ -3,6 +3,7 @@
 #![tactic(auto)]
 
 pub mod layout;
+mod place;
 pub mod read;
 pub mod search;
 pub mod write;

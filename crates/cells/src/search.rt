@@ -6,79 +6,53 @@ ghost use Rattle.cells.specs.Layout.{Sized, Lent, InLevel, Row};
 ghost use Rattle.cells.specs.Changed.{key_place, entity_place};
 
 use crate::layout::Part;
-use crate::read::{class_at, is_empty, value_at};
-use model::Description;
 
-// The first row of a level with a key; the number of rows where there is none.
-pub fn find(
-    values: &[u32],
-    description: Description,
-    relation: usize,
-    part: Part,
-    level: usize,
-    key: u32,
-) -> usize
-    requires sized { Sized description relation part (length values.now) }
-    requires in_level { InLevel description relation level }
-    ensures { Row description relation (key_place description values.now relation level key) result }
-{
-    let rows = part.rows;
-    let mut row = 0;
-    while row < rows {
-        if value_at(values, description, relation, part, level, row, 1) == key {
-            return row;
+impl Part {
+    // The first row of a level with a key.
+    pub fn find(self, values: &[u32], level: usize, key: u32) -> Option<usize>
+        requires sized { Sized self.description (length values.now) }
+        requires in_level { InLevel self.description self.relation level }
+        ensures { Row self.description self.relation (key_place self.description values.now self.relation level key) result }
+    {
+        for row in 0..self.rows {
+            if self.value_at(values, level, row, 1) == key {
+                return Some(row);
+            }
         }
-        row += 1;
+        None
     }
-    row
-}
 
-// The row of an entity at a level; the number of rows where there is none.
-pub fn entity(
-    values: &[u32],
-    classes: &[u8],
-    description: Description,
-    relation: usize,
-    part: Part,
-    level: usize,
-    key: u32,
-    class: u8,
-) -> usize
-    requires lent { Lent description relation part (length values.now) (length classes.now) }
-    requires in_level { InLevel description relation level }
-    ensures { Row description relation (entity_place description values.now classes.now relation level key class) result }
-{
-    let rows = part.rows;
-    let row = find(values, description, relation, part, level, key);
-    if rows <= row {
-        return rows;
-    }
-    if class_at(classes, description, relation, part, level, row, 1) == class {
-        return row;
-    }
-    rows
-}
-
-// The lowest empty row of a level; the number of rows where there is none.
-pub fn lowest(
-    values: &[u32],
-    classes: &[u8],
-    description: Description,
-    relation: usize,
-    part: Part,
-    level: usize,
-) -> usize
-    requires lent { Lent description relation part (length values.now) (length classes.now) }
-    requires in_level { InLevel description relation level }
-    ensures { Row description relation (lowest_empty description (state_of description (holding values.now classes.now) level).rows relation) result }
-{
-    let rows = part.rows;
-    let mut row = 0;
-    while row < rows {
-        if is_empty(values, classes, description, relation, part, level, row) {
-            return row;
+    // The row of an entity at a level.
+    pub fn entity(
+        self,
+        values: &[u32],
+        classes: &[u8],
+        level: usize,
+        key: u32,
+        class: u8,
+    ) -> Option<usize>
+        requires lent { Lent self.description (length values.now) (length classes.now) }
+        requires in_level { InLevel self.description self.relation level }
+        ensures { Row self.description self.relation (entity_place self.description values.now classes.now self.relation level key class) result }
+    {
+        let row = self.find(values, level, key)?;
+        if self.class_at(classes, level, row, 1) == class {
+            return Some(row);
         }
-        row += 1;
+        None
     }
-    row
+
+    // The lowest empty row of a level.
+    pub fn lowest(self, values: &[u32], classes: &[u8], level: usize) -> Option<usize>
+        requires lent { Lent self.description (length values.now) (length classes.now) }
+        requires in_level { InLevel self.description self.relation level }
+        ensures { Row self.description self.relation (lowest_empty self.description (state_of self.description (holding values.now classes.now) level).rows self.relation) result }
+    {
+        for row in 0..self.rows {
+            if self.is_empty(values, classes, level, row) {
+                return Some(row);
+            }
+        }
+        None
+    }
 }

@@ -1,7 +1,7 @@
 use borrow.Author.Tests.{ne_eqb, eq-eqb}
 use Rattle.model.specs.Tables.{same}
 use Rattle.cells.proofs.Cells.{state-cell}
-use Rattle.cells.proofs.read.is_null.Goals as goal
+use Rattle.cells.proofs.layout.Part.is_null.Goals as goal
 
 pub returns-then-value_at-ne0 : goal.returns-then-value_at-ne0
 unfolding same

@@ -1,8 +1,0 @@
-use mathlib.Core.Path.{◌∙◌}
-use native.Mathlib.Omega.{arith}
-use Rattle.model.specs.Tables.{norow}
-use Rattle.cells.proofs.Written.{row_as, nulls-empty}
-use Rattle.cells.proofs.write.clear.Goals as goal
-
-pub returns : goal.returns
-returns c = c.store.ensures ∙ row_as _ _ _ _ _ norow _ (λ k z h. nulls-empty k (omega (arith, c.requires.lent.laid.narrow, c.requires.lent.laid.columns)))
