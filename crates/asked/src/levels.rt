@@ -1,55 +1,48 @@
-// A list of levels.
-ghost use Rattle.std.specs.Prelude.{◌≡◌, not, eqb, length, get_or, ◌<◌};
-ghost use Rattle.bounded.specs.Bounded.{all_below};
+// The levels of a description, and a list of levels.
+ghost use Rattle.std.specs.Prelude.{◌≡◌};
 ghost use Rattle.model.specs.Description.{is_level, over as over_of};
 ghost use Rattle.model.specs.Listed.{among, each_level, levels_once};
-ghost use Rattle.asked.specs.Facts.{Ordered};
+ghost use Rattle.asked.specs.Known.{Ordered};
 
-use crate::ranges::over;
 use model::Description;
+
+// Which level of a description dominates which.
+#[derive(Clone, Copy)]
+pub struct Levels {
+    pub description: Description,
+    pub order: [[bool; 16]; 16],
+    pub ghost ordered: { Ordered description order },
+}
+
+impl Levels {
+    // Whether level `a` dominates level `b`.
+    pub fn over(self, a: usize, b: usize) -> bool
+        ensures { result ≡ over_of self.description a b }
+    {
+        level::over(self.order, a, b)
+    }
+
+    // Every listed level is dominated by this one.
+    pub fn sees(self, level: usize, list: &[u32]) -> bool
+        ensures { result ≡ each_level (over_of self.description level) list.now }
+    {
+        for listed in list {
+            if !self.over(level, *listed as usize) {
+                return false;
+            }
+        }
+        true
+    }
+}
 
 // Every level exists.
 pub fn exist(list: &[u32], description: Description) -> bool
     ensures { result ≡ each_level (is_level description) list.now }
 {
-    let levels = description.levels as u32;
-    let mut i = 0;
-    while i < list.len() {
-        if levels <= list[i] {
+    for level in list {
+        if u32::from(description.levels) <= *level {
             return false;
         }
-        i += 1;
-    }
-    true
-}
-
-// Every level is dominated by this one.
-pub fn seen(list: &[u32], description: Description, order: [[bool; 16]; 16], level: usize) -> bool
-    requires { Ordered description order }
-    ensures { result ≡ each_level (over_of description level) list.now }
-{
-    let mut i = 0;
-    while i < list.len() {
-        if !over(description, order, level, list[i] as usize) {
-            return false;
-        }
-        i += 1;
-    }
-    true
-}
-
-// No level before the one at `i` is the same.
-fn apart(list: &[u32], i: usize) -> bool
-    requires { i < length list.now }
-    ensures { result ≡ all_below i (λ j. not (eqb (get_or list.now i 0) (get_or list.now j 0))) }
-{
-    let level = list[i];
-    let mut j = 0;
-    while j < i {
-        if level == list[j] {
-            return false;
-        }
-        j += 1;
     }
     true
 }
@@ -58,12 +51,10 @@ fn apart(list: &[u32], i: usize) -> bool
 pub fn once(list: &[u32]) -> bool
     ensures { result ≡ levels_once list.now }
 {
-    let mut i = 0;
-    while i < list.len() {
-        if !apart(list, i) {
+    for i in 0..list.len() {
+        if lists(&list[..i], list[i]) {
             return false;
         }
-        i += 1;
     }
     true
 }
@@ -72,12 +63,10 @@ pub fn once(list: &[u32]) -> bool
 pub fn lists(list: &[u32], level: usize) -> bool
     ensures { result ≡ among list.now level }
 {
-    let mut i = 0;
-    while i < list.len() {
-        if list[i] as usize == level {
+    for listed in list {
+        if *listed as usize == level {
             return true;
         }
-        i += 1;
     }
     false
 }

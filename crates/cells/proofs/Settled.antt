@@ -61,7 +61,7 @@ one-part x {d} {r} e f =
     (λ s n k l. of-numbers x s n k (x.laid.start ∙ sym l.start) (x.laid.rows ∙ sym l.rows) (x.laid.columns ∙ sym l.columns) l))
 
 pub lay-settled : Settled lay.Post
-lay-settled κs a x y e f p q = one-part x (p.described ∙ sym q.described) (p.of_relation ∙ sym q.of_relation) y.start y.rows y.columns y.laid
+lay-settled κs a x y e f p q = one-part x (p.0 ∙ sym q.0) (p.1 ∙ sym q.1) y.start y.rows y.columns y.laid
 
 pub place-settled : Settled place.Post
 place-settled κs a x y e f p q = p.is ∙ sym q.is
