@@ -1,5 +1,6 @@
 // The levels of a description, and a list of levels.
-ghost use Rattle.std.specs.Prelude.{◌≡◌};
+ghost use Rattle.std.specs.Prelude.{◌≡◌, not, eqb, length, get_or, ◌<◌};
+ghost use Rattle.bounded.specs.Bounded.{all_below};
 ghost use Rattle.model.specs.Description.{is_level, over as over_of};
 ghost use Rattle.model.specs.Listed.{among, each_level, levels_once};
 ghost use Rattle.asked.specs.Known.{Ordered};
@@ -23,7 +24,7 @@ impl Levels {
     }
 
     // Every listed level is dominated by this one.
-    pub fn sees(self, level: usize, list: &[u32]) -> bool
+    pub fn seen(self, list: &[u32], level: usize) -> bool
         ensures { result ≡ each_level (over_of self.description level) list.now }
     {
         for listed in list {
@@ -47,12 +48,26 @@ pub fn exist(list: &[u32], description: Description) -> bool
     true
 }
 
+// No level before the one at `i` is the same.
+fn apart(list: &[u32], i: usize) -> bool
+    requires { i < length list.now }
+    ensures { result ≡ all_below i (λ j. not (eqb (get_or list.now i 0) (get_or list.now j 0))) }
+{
+    let level = list[i];
+    for j in 0..i {
+        if level == list[j] {
+            return false;
+        }
+    }
+    true
+}
+
 // No level is listed twice.
 pub fn once(list: &[u32]) -> bool
     ensures { result ≡ levels_once list.now }
 {
     for i in 0..list.len() {
-        if lists(&list[..i], list[i]) {
+        if !apart(list, i) {
             return false;
         }
     }

@@ -1,6 +1,7 @@
 // What a statement's lists say: which columns and levels they name.
 #![tactic(auto)]
 
+pub mod columns;
 pub mod levels;
 pub mod pairs;
-pub mod ranges;
+pub mod table;

@@ -3,10 +3,9 @@ ghost use Rattle.std.specs.Prelude.{◌≡◌, not, eqb, ◌<◌};
 ghost use Rattle.bounded.specs.Bounded.{all_below};
 ghost use Rattle.model.specs.Description.{between};
 ghost use Rattle.model.specs.Listed.{pairs, column_at, each as each_of, columns_once};
-ghost use Rattle.asked.specs.Facts.{Ordered, Related, Found, rule_of};
+ghost use Rattle.asked.specs.Facts.{Found, rule_of};
 
-use crate::ranges::{over, takes};
-use model::Description;
+use crate::columns::Columns;
 
 // What is asked of each pair.
 #[derive(Clone, Copy)]
@@ -25,61 +24,41 @@ pub enum Rule {
     Above { level: usize },
 }
 
-// A relation with so many columns has this one.
-fn exists(columns: usize, column: usize) -> bool
-    ensures { result ≡ between 1 columns column }
-{
-    1 <= column && column <= columns
-}
-
-// One pair is as the rule asks.
-fn holds(
-    description: Description,
-    order: [[bool; 16]; 16],
-    relation: usize,
-    columns: usize,
-    rule: Rule,
-    column: usize,
-    second: usize,
-) -> bool
-    requires ordered { Ordered description order }
-    requires related { Related description relation columns }
-    ensures { result ≡ rule_of description relation rule column second }
-{
-    match rule {
-        Rule::Column => exists(columns, column),
-        Rule::From => exists(columns, column) && second < description.levels as usize,
-        Rule::Takes { level } => takes(description, order, relation, columns, column, level),
-        Rule::Lends => takes(description, order, relation, columns, column, second),
-        Rule::Below { level } => over(description, order, level, second),
-        Rule::Above { level } => over(description, order, second, level),
+impl Columns {
+    // The column exists.
+    fn exists(self, column: usize) -> bool
+        ensures { result ≡ between 1 self.count column }
+    {
+        1 <= column && column <= self.count
     }
-}
 
-// Every pair is as the rule asks.
-pub fn each(
-    list: &[u32],
-    description: Description,
-    order: [[bool; 16]; 16],
-    relation: usize,
-    columns: usize,
-    rule: Rule,
-) -> bool
-    requires ordered { Ordered description order }
-    requires related { Related description relation columns }
-    ensures { result ≡ each_of (rule_of description relation rule) list.now }
-{
-    let pairs = list.len() / 2;
-    let mut i = 0;
-    while i < pairs {
-        let column = list[2 * i] as usize;
-        let second = list[2 * i + 1] as usize;
-        if !holds(description, order, relation, columns, rule, column, second) {
-            return false;
+    // One pair is as the rule asks.
+    fn holds(self, rule: Rule, column: usize, second: usize) -> bool
+        ensures { result ≡ rule_of self.levels.description self.relation rule column second }
+    {
+        match rule {
+            Rule::Column => self.exists(column),
+            Rule::From => self.exists(column) && second < self.levels.description.levels as usize,
+            Rule::Takes { level } => self.takes(column, level),
+            Rule::Lends => self.takes(column, second),
+            Rule::Below { level } => self.levels.over(level, second),
+            Rule::Above { level } => self.levels.over(second, level),
         }
-        i += 1;
     }
-    true
+
+    // Every pair is as the rule asks.
+    pub fn each(self, list: &[u32], rule: Rule) -> bool
+        ensures { result ≡ each_of (rule_of self.levels.description self.relation rule) list.now }
+    {
+        for i in 0..list.len() / 2 {
+            let column = list[2 * i] as usize;
+            let second = list[2 * i + 1] as usize;
+            if !self.holds(rule, column, second) {
+                return false;
+            }
+        }
+        true
+    }
 }
 
 // No pair before pair `i` has its column.
@@ -88,12 +67,10 @@ fn apart(list: &[u32], i: usize) -> bool
     ensures { result ≡ all_below i (λ j. not (eqb (column_at list.now i) (column_at list.now j))) }
 {
     let column = list[2 * i];
-    let mut j = 0;
-    while j < i {
+    for j in 0..i {
         if column == list[2 * j] {
             return false;
         }
-        j += 1;
     }
     true
 }
@@ -102,28 +79,22 @@ fn apart(list: &[u32], i: usize) -> bool
 pub fn once(list: &[u32]) -> bool
     ensures { result ≡ columns_once list.now }
 {
-    let pairs = list.len() / 2;
-    let mut i = 0;
-    while i < pairs {
+    for i in 0..list.len() / 2 {
         if !apart(list, i) {
             return false;
         }
-        i += 1;
     }
     true
 }
 
-// The pair of a column; the number of pairs where there is none.
-pub fn find(list: &[u32], column: usize) -> usize
+// The pair of a column.
+pub fn find(list: &[u32], column: usize) -> Option<usize>
     ensures { Found list.now column result }
 {
-    let pairs = list.len() / 2;
-    let mut i = 0;
-    while i < pairs {
+    for i in 0..list.len() / 2 {
         if list[2 * i] as usize == column {
-            return i;
+            return Some(i);
         }
-        i += 1;
     }
-    i
+    None
 }

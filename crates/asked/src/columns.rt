@@ -1,0 +1,44 @@
+// The columns of a relation, and which levels they take.
+ghost use Rattle.std.specs.Prelude.{◌≡◌};
+ghost use Rattle.model.specs.Description.{in_range};
+ghost use Rattle.model.specs.Tables.{own_null};
+ghost use Rattle.asked.specs.Known.{Related};
+
+use crate::levels::Levels;
+
+// A relation of a description, and how many columns it has.
+#[derive(Clone, Copy)]
+pub struct Columns {
+    pub levels: Levels,
+    pub relation: usize,
+    pub count: usize,
+    pub ghost related: { Related levels.description relation count },
+}
+
+impl Columns {
+    // Whether a level is in the range of a column, which must exist.
+    pub(crate) fn takes(self, column: usize, level: usize) -> bool
+        ensures { result ≡ in_range self.levels.description self.relation column level }
+    {
+        if column == 0 {
+            return false;
+        }
+        if self.count < column {
+            return false;
+        }
+        let at = 9 * self.relation + column;
+        let low = self.levels.description.low[at] as usize;
+        let high = self.levels.description.high[at] as usize;
+        self.levels.over(high, level) && self.levels.over(level, low)
+    }
+
+    // The class of a column's own null at a level.
+    pub fn null(self, column: usize, level: u8) -> u8
+        ensures { result ≡ (own_null self.levels.description self.relation column level).class }
+    {
+        if self.takes(column, level as usize) {
+            return level;
+        }
+        255
+    }
+}
