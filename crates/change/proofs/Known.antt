@@ -7,10 +7,8 @@ use mathlib.Core.List.{List}
 use lib.ListN.{length}
 use Rattle.model.specs.declared.Description.{Description}
 use Rattle.model.specs.Description.{over, sound}
-use Rattle.cells.specs.declared.layout.Part.{Part}
-use Rattle.cells.specs.Layout.{InLevel, Sized, Lent}
+use Rattle.cells.specs.Layout.{InLevel, Lent}
 use Rattle.cells.proofs.Counts.{sound-says, relation-few, in-level}
-use Rattle.asked.specs.Facts.{Ordered, Related}
 use Rattle.theory.proofs.Described.{sound-laws}
 use Rattle.change.specs.Facts.{Standing, Naming}
 
@@ -21,24 +19,15 @@ over-self d s c h = (sound-laws d s).reflexive c h
 
 -- ---- of what stands
 
-module _ {d : Description} {order : List (List Bool)} {r c : ℕ} {p : Part} {vs cs : List ℕ} (S : Standing d order r c p vs cs) where
-  pub ordered : Ordered d order
-  ordered = record { order_is = S.order_is; few = (sound-says d S.sound-is).few-levels }
-
-  pub related : Related d r p.columns
-  related = record { relation = relation-few d S.sound-is r S.relation; is = S.laid.columns; narrow = S.laid.narrow }
-
+module _ {d : Description} {r c : ℕ} {vs cs : List ℕ} (S : Standing d r c vs cs) where
   pub own-level : InLevel d r c
   own-level = in-level d S.sound-is r S.relation c S.level
 
   pub naming : Naming d r c (length vs)
   naming = record { sound-is = S.sound-is; relation = S.relation; level = S.level; long = S.long }
 
-  pub sized : Sized d r p (length vs)
-  sized = record { laid = S.laid; size = S.long }
-
-  pub lent : Lent d r p (length vs) (length cs)
-  lent = record { laid = S.laid; values = S.long; classes = S.wide }
+  pub lent : Lent d (length vs) (length cs)
+  lent = record { values = S.long; classes = S.wide }
 
   pub own-over : over d c c ≡ true
   own-over = over-self d S.sound-is c S.level

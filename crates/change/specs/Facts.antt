@@ -4,7 +4,6 @@ use Rattle.std.specs.Prelude.{◌≡◌, Bool, true, List, ℕ, ◌≤◌, ◌<�
 use Rattle.std.proofs.Math.Option.{none, some}
 use Rattle.bounded.specs.Bounded.{count_below}
 use Rattle.bounded.specs.Lists.{write_at}
-use Rattle.level.specs.Order.{order_of}
 use Rattle.model.specs.declared.Description.{Description}
 use Rattle.model.specs.declared.Fault.{Fault}
 use Rattle.std.specs.Prelude.{Ok, Err}
@@ -22,18 +21,14 @@ use Rattle.model.specs.Update.{update_tests, updated}
 use Rattle.model.specs.Uplevel.{uplevel_tests, entity_of, uplevelled}
 use Rattle.model.specs.Select.{Shown, select_tests, found, values_shown, owners_shown}
 use Rattle.model.specs.Run.{first_fault, left}
-use Rattle.cells.specs.declared.layout.Part.{Part}
-use Rattle.cells.specs.Layout.{Laid}
 
 -- ---- what is known
 
--- legal tables in two buffers, the order of the levels, a relation with its numbers, and a subject's level
-pub record Standing (d : Description) (order : List (List Bool)) (r c : ℕ) (p : Part) (values classes : List ℕ) : Type 0 where
+-- legal tables in two buffers, a relation, and a subject's level
+pub record Standing (d : Description) (r c : ℕ) (values classes : List ℕ) : Type 0 where
   pub sound-is : sound d ≡ true
-  pub order_is : order ≡ order_of d.labels d.levels
   pub relation : is_relation d r ≡ true
   pub level : c < d.levels
-  pub laid : Laid d r p
   pub long : length values ≡ total_of d
   pub wide : length classes ≡ total_of d
   pub legal-is : legal d (state_of d (holding values classes)) ≡ true
