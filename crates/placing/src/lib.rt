@@ -8,8 +8,6 @@ ghost use Rattle.change.specs.Facts.{Filled};
 ghost use Rattle.placing.specs.Placing.{Places, row_read, small_classes};
 
 use cells::layout::lay;
-use cells::search::lowest;
-use cells::write::store;
 use model::Description;
 use records::bytes::{pair, quad};
 
@@ -45,12 +43,10 @@ fn small(bytes: &[u8], columns: usize) -> bool
     requires { columns ≤ 8 }
     ensures { result ≡ small_classes columns bytes.now }
 {
-    let mut k = 0;
-    while k < columns {
+    for k in 0..columns {
         if pair(bytes, 12 + 6 * k) > 255 {
             return false;
         }
-        k += 1;
     }
     true
 }
@@ -61,11 +57,8 @@ fn news(bytes: &[u8], columns: usize) -> [u32; 9]
     ensures { Filled columns (λ k. (row_read bytes.now k).value) result }
 {
     let mut news = [0u32; 9];
-    let mut column = 0;
-    while column < columns {
-        let x = quad(bytes, 8 + 6 * column);
-        column += 1;
-        news[column] = x;
+    for k in 0..columns {
+        news[k + 1] = quad(bytes, 8 + 6 * k);
     }
     news
 }
@@ -77,11 +70,8 @@ fn owners(bytes: &[u8], columns: usize) -> [u8; 9]
     ensures { Filled columns (λ k. (row_read bytes.now k).class) result }
 {
     let mut owners = [255u8; 9];
-    let mut column = 0;
-    while column < columns {
-        let x = pair(bytes, 12 + 6 * column) as u8;
-        column += 1;
-        owners[column] = x;
+    for k in 0..columns {
+        owners[k + 1] = pair(bytes, 12 + 6 * k) as u8;
     }
     owners
 }
@@ -106,22 +96,11 @@ pub fn place(bytes: &[u8], values: &mut [u32], classes: &mut [u8], description: 
     if !small(bytes, columns) {
         return false;
     }
-    let row = lowest(values, classes, description, relation, part, level);
-    if part.rows <= row {
+    let Some(row) = part.lowest(values, classes, level) else {
         return false;
-    }
+    };
     let news = news(bytes, columns);
     let owners = owners(bytes, columns);
-    store(
-        values,
-        classes,
-        description,
-        relation,
-        part,
-        level,
-        row,
-        news,
-        owners,
-    );
+    part.store(values, classes, level, row, news, owners);
     true
 }

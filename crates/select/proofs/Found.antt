@@ -23,7 +23,7 @@ use Rattle.model.specs.Select.{Shown, asked, found_at, found}
 use Rattle.theory.proofs.Seen.{seen-level}
 use Rattle.conditions.specs.Facts.{met_at, ChosenBy, Counted}
 use Rattle.select.specs.declared.At.{At}
-use Rattle.select.specs.declared.Levels.{Levels}
+use Rattle.select.specs.declared.InOrder.{InOrder}
 use Rattle.select.specs.Facts.{wanted, level_at, levels_at, shown_levels, Holds, level_found, found_in, row_shown, Room, Wrote}
 use Rattle.select.proofs.Shown.{Wide, wide-concat, wide_row, room_at, wrote-next, wrote-end}
 
@@ -62,12 +62,12 @@ module _ (d : Description) (r : ℕ) (conditions : List ℕ) (S : State) (l : �
   found-wide =
       rw found_rows (wide-concat (row_count d r) (row_found d r conditions S l) (λ i. wide_row d r ((S l).rows r) l (met_at d conditions ((S l).rows r) i) i))
 
-pub found-in-wide : (d : Description) (r : ℕ) (conditions : List ℕ) (S : State) (v : Levels) → Wide (column_count d r) (found_in d r conditions S v)
+pub found-in-wide : (d : Description) (r : ℕ) (conditions : List ℕ) (S : State) (v : InOrder) → Wide (column_count d r) (found_in d r conditions S v)
 unfolding found_in level_found
 found-in-wide d r conditions S v =
     wide-concat v.count (level_found d r conditions S v) (λ i. found-wide d r conditions S (get_or v.levels i 0))
 
-pub level-count : (d : Description) (r : ℕ) (conditions : List ℕ) (S : State) (v : Levels) (i : ℕ) {n k : ℕ} {chosen : List Bool}
+pub level-count : (d : Description) (r : ℕ) (conditions : List ℕ) (S : State) (v : InOrder) (i : ℕ) {n k : ℕ} {chosen : List Bool}
     → ChosenBy (row_count d r) (met_at d conditions ((S (get_or v.levels i 0)).rows r)) chosen → n ≡ row_count d r → Counted n chosen k → k ≡ length (level_found d r conditions S v i)
 unfolding level_found
 level-count d r conditions S v i = found-count d r conditions S (get_or v.levels i 0)
@@ -99,12 +99,12 @@ module _ (d : Description) (r : ℕ) (conditions : List ℕ) (S : State) (l : �
 
 -- ---- level by level
 
-pub count-found : (d : Description) (r : ℕ) (conditions : List ℕ) (S : State) (v : Levels) (i : ℕ) {k : ℕ} → k ≡ length (concat_below i (level_found d r conditions S v))
+pub count-found : (d : Description) (r : ℕ) (conditions : List ℕ) (S : State) (v : InOrder) (i : ℕ) {k : ℕ} → k ≡ length (concat_below i (level_found d r conditions S v))
     → i ≤ v.count → v.count ≤ i → k ≡ length (found_in d r conditions S v)
 unfolding found_in
 count-found d r conditions S v i {k} e h g = at-end (λ m. k ≡ length (concat_below m (level_found d r conditions S v))) h g e
 
-module _ (d : Description) (r : ℕ) (conditions : List ℕ) (S : State) (v : Levels) (i : ℕ) {a b : At} {s o s' o' : List ℕ} (w : Wrote (concat_below i (level_found d r conditions S v)) a b s o s' o') where
+module _ (d : Description) (r : ℕ) (conditions : List ℕ) (S : State) (v : InOrder) (i : ℕ) {a b : At} {s o s' o' : List ℕ} (w : Wrote (concat_below i (level_found d r conditions S v)) a b s o s' o') where
   pub level-end : i ≤ v.count → v.count ≤ i → Wrote (found_in d r conditions S v) a b s o s' o'
   unfolding found_in
   level-end h k = wrote-end v.count i (level_found d r conditions S v) w h k
@@ -163,7 +163,7 @@ module _ (d : Description) (c r : ℕ) (list conditions : List ℕ) where
       ∙ concat-cong d.levels _ _ (λ l _. flat-level (found_at d r conditions S) h l))
 
   -- the rows found at the levels that are laid out are those that SELECT finds
-  pub found_in_lem : (S : State) {v : Levels} → Holds (shown_levels d c list) v → v.count ≤ 16 → found_in d r conditions S v ≡ found d c r list conditions S
+  pub found_in_lem : (S : State) {v : InOrder} → Holds (shown_levels d c list) v → v.count ≤ 16 → found_in d r conditions S v ≡ found d c r list conditions S
   unfolding found_in level_found
   found_in_lem S {v} h few =
       flat-take (found_at d r conditions S) v.levels v.count (omega (arith, h.long))

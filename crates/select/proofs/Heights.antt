@@ -20,7 +20,7 @@ use Rattle.bounded.proofs.Lists.{concat-more, concat-room}
 use Rattle.model.specs.declared.Description.{Description}
 use Rattle.model.specs.Description.{height_at}
 use Rattle.model.specs.Select.{asked}
-use Rattle.select.specs.declared.Levels.{Levels}
+use Rattle.select.specs.declared.InOrder.{InOrder}
 use Rattle.select.specs.Facts.{wanted, level_at, levels_at, shown_levels, held, Holds}
 
 -- ---- as the loops have it
@@ -29,7 +29,7 @@ pub holds-none : (g : ℕ → List ℕ) → Holds (concat_below 0 g) (record { c
 unfolding concat_below
 holds-none g = record { count = refl; is = refl; long = refl }
 
-pub holds_more : (xs : List ℕ) (v : Levels) (l : ℕ) → Holds xs v → v.count < 16
+pub holds_more : (xs : List ℕ) (v : InOrder) (l : ℕ) → Holds xs v → v.count < 16
     → Holds (xs ++ (l ∷ [])) (record { count = v.count + 1; levels = set v.levels v.count l })
 holds_more xs v l h few = record {
   count = omega (arith, h.count, length-append xs (l ∷ []));
@@ -37,29 +37,29 @@ holds_more xs v l h few = record {
   long = length-set v.levels v.count l ∙ h.long;
 }
 
-pub holds-held : {xs : List ℕ} {v : Levels} → Holds xs v → Holds (held v) v
+pub holds-held : {xs : List ℕ} {v : InOrder} → Holds xs v → Holds (held v) v
 holds-held {xs} {v} h = record { count = h.count ∙ ap length (sym h.is); is = refl; long = h.long }
 
-pub holds-next : (n : ℕ) (g : ℕ → List ℕ) (xs : List ℕ) {v w : Levels} {ys : List ℕ} → Holds (xs ++ concat_below n g) v → ys ≡ g n → Holds (held v ++ ys) w → Holds (xs ++ concat_below (n + 1) g) w
+pub holds-next : (n : ℕ) (g : ℕ → List ℕ) (xs : List ℕ) {v w : InOrder} {ys : List ℕ} → Holds (xs ++ concat_below n g) v → ys ≡ g n → Holds (held v ++ ys) w → Holds (xs ++ concat_below (n + 1) g) w
 holds-next n g xs {v} {w} {ys} h e k = subst (λ (zs : List ℕ). Holds zs w) q k
   where
     q : held v ++ ys ≡ xs ++ concat_below (n + 1) g
     q = rw (h.is, e, concat-more) (append_assoc xs (concat_below n g) (g n))
 
-pub holds-start : (g : ℕ → List ℕ) {v : Levels} (xs : List ℕ) → Holds xs v → Holds (xs ++ concat_below 0 g) v
+pub holds-start : (g : ℕ → List ℕ) {v : InOrder} (xs : List ℕ) → Holds xs v → Holds (xs ++ concat_below 0 g) v
 unfolding concat_below
 holds-start g xs h = rw append-nil h
 
-pub holds-end : (n m : ℕ) (g : ℕ → List ℕ) (xs : List ℕ) {v : Levels} → Holds (xs ++ concat_below m g) v → m ≤ n → n ≤ m → Holds (xs ++ concat_below n g) v
+pub holds-end : (n m : ℕ) (g : ℕ → List ℕ) (xs : List ℕ) {v : InOrder} → Holds (xs ++ concat_below m g) v → m ≤ n → n ≤ m → Holds (xs ++ concat_below n g) v
 holds-end n m g xs {v} h k l = at-end (λ i. Holds (xs ++ concat_below i g) v) k l h
 
 -- there is room for one level more, where there is room for all
-pub holds-room : (n i l : ℕ) (g : ℕ → List ℕ) {v w : Levels} → Holds (held v) v → Holds (held v ++ concat_below i g) w → i < n → l ∷ [] ≡ g i
+pub holds-room : (n i l : ℕ) (g : ℕ → List ℕ) {v w : InOrder} → Holds (held v) v → Holds (held v ++ concat_below i g) w → i < n → l ∷ [] ≡ g i
     → v.count + length (concat_below n g) ≤ 16 → w.count < 16
 holds-room n i l g {v} {w} h k small e room =
     omega (arith, h.count, k.count, length-append (held v) (concat_below i g), concat-room n i g small, ap length e)
 
-pub holds_same : (n : ℕ) (g : ℕ → List ℕ) (xs : List ℕ) {v : Levels} → Holds (xs ++ concat_below n g) v → [] ≡ g n → Holds (xs ++ concat_below (n + 1) g) v
+pub holds_same : (n : ℕ) (g : ℕ → List ℕ) (xs : List ℕ) {v : InOrder} → Holds (xs ++ concat_below n g) v → [] ≡ g n → Holds (xs ++ concat_below (n + 1) g) v
 holds_same n g xs {v} h e = holds-next n g xs h e (rw append-nil (holds-held h))
 
 module _ (d : Description) (c : ℕ) (list : List ℕ) (h : ℕ) where
@@ -147,7 +147,7 @@ module _ (d : Description) (c : ℕ) (list : List ℕ) where
       each-concat (λ m. m < d.levels) 24 (levels_at d c list)
       (λ h _. each-concat (λ m. m < d.levels) d.levels (level_at d c list h) (λ l k. level-each h l k))
 
-  pub holds-each : {v : Levels} → Holds (shown_levels d c list) v → (i : ℕ) → i < v.count → get_or v.levels i 0 < d.levels
+  pub holds-each : {v : InOrder} → Holds (shown_levels d c list) v → (i : ℕ) → i < v.count → get_or v.levels i 0 < d.levels
   holds-each {v} h i k =
       subst (λ (l : ℕ). l < d.levels)
       (ap (λ (xs : List ℕ). get_or xs i 0) (sym h.is) ∙ get_or-take v.count v.levels i 0 k)

@@ -11,7 +11,7 @@ use Rattle.model.specs.Tables.{Row, State}
 use Rattle.model.specs.Select.{Shown, asked, found_at, values_shown, owners_shown}
 use Rattle.cells.specs.Changed.{value_at, class_at}
 use Rattle.select.specs.declared.At.{At}
-use Rattle.select.specs.declared.Levels.{Levels}
+use Rattle.select.specs.declared.InOrder.{InOrder}
 
 -- ---- the levels of SELECT
 
@@ -31,17 +31,17 @@ unfoldable pub shown_levels : Description → ℕ → List ℕ → List ℕ
 shown_levels d c list = concat_below 24 (levels_at d c list)
 
 -- the levels that are laid out
-abbrev pub held : Levels → List ℕ
+abbrev pub held : InOrder → List ℕ
 held v = take v.count v.levels
 
 -- the levels that are laid out are these
-pub record Holds (xs : List ℕ) (v : Levels) : Type 0 where
+pub record Holds (xs : List ℕ) (v : InOrder) : Type 0 where
   pub count : v.count ≡ length xs
   pub is : held v ≡ xs
   pub long : length v.levels ≡ 16
 
 -- at most 16 levels of relation r, which has a key
-pub record InLevels (d : Description) (r : ℕ) (v : Levels) : Type 0 where
+pub record InLevels (d : Description) (r : ℕ) (v : InOrder) : Type 0 where
   pub relation : r < suc d.relations
   pub keyed : 0 < column_count d r
   pub few : v.count ≤ 16
@@ -49,10 +49,10 @@ pub record InLevels (d : Description) (r : ℕ) (v : Levels) : Type 0 where
   pub level : (i : ℕ) → i < v.count → get_or v.levels i 0 < d.levels
 
 -- the rows found at one of the levels that are laid out, and at all
-unfoldable pub level_found : Description → ℕ → List ℕ → State → Levels → ℕ → List Shown
+unfoldable pub level_found : Description → ℕ → List ℕ → State → InOrder → ℕ → List Shown
 level_found d r conditions S v i = found_at d r conditions S (get_or v.levels i 0)
 
-unfoldable pub found_in : Description → ℕ → List ℕ → State → Levels → List Shown
+unfoldable pub found_in : Description → ℕ → List ℕ → State → InOrder → List Shown
 found_in d r conditions S v = concat_below v.count (level_found d r conditions S v)
 
 -- ---- the rows of SELECT

@@ -7,7 +7,7 @@ use Rattle.model.specs.declared.Description.{Description}
 use Rattle.model.specs.Buffers.{holding, state_of}
 use Rattle.model.specs.Select.{found_at}
 use Rattle.select.specs.declared.At.{At}
-use Rattle.select.specs.declared.Levels.{Levels}
+use Rattle.select.specs.declared.InOrder.{InOrder}
 use Rattle.select.specs.Facts.{Wrote, Stands, Filled, row_shown, found_in}
 
 -- row i of level l is written from a place on, up to another, where it is chosen
@@ -19,9 +19,9 @@ abbrev pub WroteLevel : Description → ℕ → ℕ → At → At → List ℕ �
 WroteLevel d r l from to conditions values classes = Wrote (found_at d r conditions (state_of d (holding values classes)) l) from to
 
 -- the rows of every level that is laid out stand at the start of both buffers
-abbrev pub WroteLevels : Description → ℕ → Levels → List ℕ → List ℕ → List ℕ → List ℕ → List ℕ → List ℕ → List ℕ → Type 0
+abbrev pub WroteLevels : Description → ℕ → InOrder → List ℕ → List ℕ → List ℕ → List ℕ → List ℕ → List ℕ → List ℕ → Type 0
 WroteLevels d r laid conditions values classes = Stands (found_in d r conditions (state_of d (holding values classes)) laid)
 
 -- they are counted and written where they fit, and every cell stays where they don't
-abbrev pub FilledLevels : Description → ℕ → Levels → List ℕ → List ℕ → List ℕ → List ℕ → List ℕ → List ℕ → List ℕ → Answer → Type 0
+abbrev pub FilledLevels : Description → ℕ → InOrder → List ℕ → List ℕ → List ℕ → List ℕ → List ℕ → List ℕ → List ℕ → Answer → Type 0
 FilledLevels d r laid conditions values classes = Filled (found_in d r conditions (state_of d (holding values classes)) laid)

@@ -30,9 +30,9 @@ pub fn formed(list: &[u32], description: Description) -> bool
     once(list)
 }
 
-// Levels in the order in which they are shown.
+// Levels in the order in which they are shown. There are sixteen at most, and no heap: hence the count beside them.
 #[derive(Clone, Copy)]
-struct Levels {
+struct InOrder {
     count: usize,
     levels: [u8; 16],
 }
@@ -41,7 +41,7 @@ struct Levels {
 fn asked(list: &[u32], subject: usize, level: usize) -> bool
     ensures { result ≡ asked_of subject list.now level }
 {
-    if list.len() == 0 {
+    if list.is_empty() {
         return level == subject;
     }
     lists(list, level)
@@ -59,87 +59,62 @@ fn wanted(list: &[u32], d: Description, subject: usize, height: u32, level: usiz
 }
 
 // One level more.
-fn add(levels: Levels, level: u8) -> Levels
-    requires holds { Holds (held levels) levels }
-    requires count_bound { levels.count < 16 }
-    ensures { Holds (held levels ++ (level ∷ [])) result }
+fn add(before: InOrder, level: u8) -> InOrder
+    requires holds { Holds (held before) before }
+    requires count_bound { before.count < 16 }
+    ensures { Holds (held before ++ (level ∷ [])) result }
 {
-    let count = levels.count;
-    let mut next = levels.levels;
-    next[count] = level;
-    Levels {
+    let count = before.count;
+    let mut levels = before.levels;
+    levels[count] = level;
+    InOrder {
         count: count + 1,
-        levels: next,
+        levels,
     }
 }
 
 // The levels of one height besides, by number.
-fn high(list: &[u32], d: Description, subject: usize, height: u32, before: Levels) -> Levels
+fn high(list: &[u32], d: Description, subject: usize, height: u32, before: InOrder) -> InOrder
     requires holds { Holds (held before) before }
     requires levels_bound { (d.levels ≤ 16) × (before.count + length (levels_at d subject list.now height) ≤ 16) }
     ensures { Holds (held before ++ levels_at d subject list.now height) result }
 {
-    let levels = d.levels as usize;
     let mut found = before;
-    let mut level = 0;
-    while level < levels {
+    for level in 0..d.levels as usize {
         if wanted(list, d, subject, height, level) {
             found = add(found, level as u8);
         }
-        level += 1;
     }
     found
 }
 
 // The levels by height, then number.
-fn lay(list: &[u32], d: Description, subject: usize) -> Levels
+fn lay(list: &[u32], d: Description, subject: usize) -> InOrder
     requires { d.levels ≤ 16 }
     ensures { Holds (shown_levels d subject list.now) result }
 {
     let none = [0u8; 16];
-    let mut found = Levels {
+    let mut found = InOrder {
         count: 0,
         levels: none,
     };
-    let mut height = 0;
-    while height < 24 {
+    for height in 0..24 {
         found = high(list, d, subject, height, found);
-        height += 1;
     }
     found
 }
 
 // How many rows are found.
-fn rows(
-    values: &[u32],
-    classes: &[u8],
-    conditions: &[u32],
-    d: Description,
-    order: [[bool; 16]; 16],
-    relation: usize,
-    part: Part,
-    laid: Levels,
-) -> u32
-    requires lent { Lent d relation part (length values.now) (length classes.now) × InLevels d relation laid }
-    requires asking { Asking d order relation conditions.now }
-    ensures { (result ≡ length (found_in d relation conditions.now (state_of d (holding values.now classes.now)) laid)) × (result ≤ 1024) }
+fn rows(values: &[u32], classes: &[u8], conditions: &[u32], table: Table, laid: InOrder) -> u32
+    requires lent { Lent table.part.description (length values.now) (length classes.now) × InLevels table.part.description table.part.relation laid }
+    requires asking { Asking table.part.description table.order table.part.relation conditions.now }
+    ensures { (result ≡ length (found_in table.part.description table.part.relation conditions.now (state_of table.part.description (holding values.now classes.now)) laid)) × (result ≤ 1024) }
 {
-    let total = laid.count;
     let mut rows = 0;
-    let mut i = 0;
-    while i < total {
-        let chosen = chosen(
-            values,
-            classes,
-            conditions,
-            d,
-            order,
-            relation,
-            part,
-            laid.levels[i] as usize,
-        );
-        rows += count(chosen, part.rows);
-        i += 1;
+    for i in 0..laid.count {
+        let level = laid.levels[i] as usize;
+        let chosen = chosen(values, classes, conditions, table.part, table.order, level);
+        rows += count(chosen, table.part.rows);
     }
     rows
 }
@@ -152,75 +127,45 @@ struct At {
 }
 
 // A row's values.
-fn copy(
-    values: &[u32],
-    shown: &mut [u32],
-    d: Description,
-    relation: usize,
-    part: Part,
-    level: usize,
-    row: usize,
-    at: At,
-)
-    requires sized { Sized d relation part (length values.now) × InRow d relation level row }
-    requires relation_in_bounds { at.values + column_count d relation ≤ length shown.old }
-    ensures { shown.new ≡ write_at at.values (values_of d values.now relation level row) shown.old }
+fn copy(values: &[u32], shown: &mut [u32], part: Part, level: usize, row: usize, at: At)
+    requires sized { Sized part.description (length values.now) × InRow part.description part.relation level row }
+    requires relation_in_bounds { at.values + column_count part.description part.relation ≤ length shown.old }
+    ensures { shown.new ≡ write_at at.values (values_of part.description values.now part.relation level row) shown.old }
 {
-    let columns = part.columns;
-    let mut column = 0;
-    while column < columns {
-        shown[at.values + column] = value_at(values, d, relation, part, level, row, column + 1);
-        column += 1;
+    for column in 0..part.columns {
+        shown[at.values + column] = part.value_at(values, level, row, column + 1);
     }
 }
 
 // A row's classes, then its TC.
-fn own(
-    classes: &[u8],
-    owners: &mut [u8],
-    d: Description,
-    relation: usize,
-    part: Part,
-    level: usize,
-    row: usize,
-    at: At,
-)
-    requires sized { Sized d relation part (length classes.now) × InRow d relation level row }
-    requires level_bound { (level < 16) × (at.owners + column_count d relation < length owners.old) }
-    ensures { owners.new ≡ write_at at.owners (owners_of d classes.now relation level row) owners.old }
+fn own(classes: &[u8], owners: &mut [u8], part: Part, level: usize, row: usize, at: At)
+    requires sized { Sized part.description (length classes.now) × InRow part.description part.relation level row }
+    requires level_bound { (level < 16) × (at.owners + column_count part.description part.relation < length owners.old) }
+    ensures { owners.new ≡ write_at at.owners (owners_of part.description classes.now part.relation level row) owners.old }
 {
-    let last = part.columns;
-    let mut column = 0;
-    while column < last {
-        owners[at.owners + column] = class_at(classes, d, relation, part, level, row, column + 1);
-        column += 1;
+    for column in 0..part.columns {
+        owners[at.owners + column] = part.class_at(classes, level, row, column + 1);
     }
-    owners[at.owners + last] = level as u8;
+    owners[at.owners + part.columns] = level as u8;
 }
 
-// A row where it is chosen; where the next goes.
+// A row; where the next goes.
 fn put(
     values: &[u32],
     classes: &[u8],
     shown: &mut [u32],
     owners: &mut [u8],
-    d: Description,
-    relation: usize,
     part: Part,
     level: usize,
     row: usize,
-    chosen: bool,
     at: At,
 ) -> At
-    requires lent { Lent d relation part (length values.now) (length classes.now) × (InRow d relation level row × (level < 16)) }
-    requires room { Room (row_shown d relation ((state_of d (holding values.now classes.now) level).rows relation) level chosen row) at (length shown.old) (length owners.old) }
-    ensures { WroteRow d relation level chosen row at result values.now classes.now shown.old owners.old shown.new owners.new }
+    requires lent { Lent part.description (length values.now) (length classes.now) × (InRow part.description part.relation level row × (level < 16)) }
+    requires room { Room (row_shown part.description part.relation ((state_of part.description (holding values.now classes.now) level).rows part.relation) level true row) at (length shown.old) (length owners.old) }
+    ensures { WroteRow part.description part.relation level true row at result values.now classes.now shown.old owners.old shown.new owners.new }
 {
-    if !chosen {
-        return at;
-    }
-    copy(values, shown, d, relation, part, level, row, at);
-    own(classes, owners, d, relation, part, level, row, at);
+    copy(values, shown, part, level, row, at);
+    own(classes, owners, part, level, row, at);
     At {
         values: at.values + part.columns,
         owners: at.owners + part.columns + 1,
@@ -234,37 +179,22 @@ fn show(
     conditions: &[u32],
     shown: &mut [u32],
     owners: &mut [u8],
-    d: Description,
-    order: [[bool; 16]; 16],
-    relation: usize,
-    part: Part,
+    table: Table,
     level: usize,
     before: At,
 ) -> At
-    requires lent { Lent d relation part (length values.now) (length classes.now) × (InLevel d relation level × Asking d order relation conditions.now) }
-    requires room { Room (found_at d relation conditions.now (state_of d (holding values.now classes.now)) level) before (length shown.old) (length owners.old) }
-    ensures { WroteLevel d relation level before result conditions.now values.now classes.now
+    requires lent { Lent table.part.description (length values.now) (length classes.now) × (InLevel table.part.description table.part.relation level × Asking table.part.description table.order table.part.relation conditions.now) }
+    requires room { Room (found_at table.part.description table.part.relation conditions.now (state_of table.part.description (holding values.now classes.now)) level) before (length shown.old) (length owners.old) }
+    ensures { WroteLevel table.part.description table.part.relation level before result conditions.now values.now classes.now
         shown.old owners.old shown.new owners.new }
 {
-    let chosen = chosen(values, classes, conditions, d, order, relation, part, level);
-    let rows = part.rows;
+    let part = table.part;
+    let chosen = chosen(values, classes, conditions, part, table.order, level);
     let mut at = before;
-    let mut row = 0;
-    while row < rows {
-        at = put(
-            values,
-            classes,
-            shown,
-            owners,
-            d,
-            relation,
-            part,
-            level,
-            row,
-            chosen[row],
-            at,
-        );
-        row += 1;
+    for row in 0..part.rows {
+        if chosen[row] {
+            at = put(values, classes, shown, owners, part, level, row, at);
+        }
     }
     at
 }
@@ -276,38 +206,21 @@ fn write(
     conditions: &[u32],
     shown: &mut [u32],
     owners: &mut [u8],
-    d: Description,
-    order: [[bool; 16]; 16],
-    relation: usize,
-    part: Part,
-    laid: Levels,
+    table: Table,
+    laid: InOrder,
 )
-    requires lent { Lent d relation part (length values.now) (length classes.now) × (InLevels d relation laid × Asking d order relation conditions.now) }
-    requires room { Room (found_in d relation conditions.now (state_of d (holding values.now classes.now)) laid) start (length shown.old) (length owners.old) }
-    ensures { WroteLevels d relation laid conditions.now values.now classes.now
+    requires lent { Lent table.part.description (length values.now) (length classes.now) × (InLevels table.part.description table.part.relation laid × Asking table.part.description table.order table.part.relation conditions.now) }
+    requires room { Room (found_in table.part.description table.part.relation conditions.now (state_of table.part.description (holding values.now classes.now)) laid) start (length shown.old) (length owners.old) }
+    ensures { WroteLevels table.part.description table.part.relation laid conditions.now values.now classes.now
         shown.old owners.old shown.new owners.new }
 {
-    let total = laid.count;
     let mut at = At {
         values: 0,
         owners: 0,
     };
-    let mut next = 0;
-    while next < total {
-        at = show(
-            values,
-            classes,
-            conditions,
-            shown,
-            owners,
-            d,
-            order,
-            relation,
-            part,
-            laid.levels[next] as usize,
-            at,
-        );
-        next += 1;
+    for next in 0..laid.count {
+        let level = laid.levels[next] as usize;
+        at = show(values, classes, conditions, shown, owners, table, level, at);
     }
 }
 
@@ -318,29 +231,24 @@ fn fill(
     conditions: &[u32],
     shown: &mut [u32],
     owners: &mut [u8],
-    d: Description,
-    order: [[bool; 16]; 16],
-    relation: usize,
-    part: Part,
-    laid: Levels,
+    table: Table,
+    laid: InOrder,
 ) -> Answer
-    requires lent { Lent d relation part (length values.now) (length classes.now) × InLevels d relation laid }
-    requires asking { Asking d order relation conditions.now }
-    ensures { FilledLevels d relation laid conditions.now values.now classes.now
+    requires lent { Lent table.part.description (length values.now) (length classes.now) × InLevels table.part.description table.part.relation laid }
+    requires asking { Asking table.part.description table.order table.part.relation conditions.now }
+    ensures { FilledLevels table.part.description table.part.relation laid conditions.now values.now classes.now
         shown.old owners.old shown.new owners.new result }
 {
-    let found = rows(values, classes, conditions, d, order, relation, part, laid);
-    let columns = part.columns;
+    let found = rows(values, classes, conditions, table, laid);
+    let columns = table.part.columns;
     if shown.len() < found as usize * columns {
-        return Answer::Refused(Fault::Short);
+        return Err(Fault::Short);
     }
     if owners.len() < found as usize * (columns + 1) {
-        return Answer::Refused(Fault::Short);
+        return Err(Fault::Short);
     }
-    write(
-        values, classes, conditions, shown, owners, d, order, relation, part, laid,
-    );
-    Answer::Done { count: found }
+    write(values, classes, conditions, shown, owners, table, laid);
+    Ok(found)
 }
 
 // Every AT level is seen, and then the rows.
@@ -351,31 +259,17 @@ pub fn select(
     conditions: &[u32],
     shown: &mut [u32],
     owners: &mut [u8],
-    description: Description,
-    order: [[bool; 16]; 16],
-    relation: usize,
-    part: Part,
+    table: Table,
     subject: usize,
 ) -> Answer
-    requires standing { Standing description order relation subject part values.now classes.now }
-    requires formed_list { (select_formed description list.now ≡ true) × (conditions_formed description relation conditions.now ≡ true) }
-    ensures { Selects description subject relation list.now conditions.now values.now classes.now
+    requires standing { Standing table.part.description table.part.relation subject values.now classes.now }
+    requires formed_list { (select_formed table.part.description list.now ≡ true) × (conditions_formed table.part.description table.part.relation conditions.now ≡ true) }
+    ensures { Selects table.part.description subject table.part.relation list.now conditions.now values.now classes.now
         shown.old owners.old shown.new owners.new result }
 {
-    if !seen(list, description, order, subject) {
-        return Answer::Refused(Fault::Unseen);
+    if !table.levels().seen(list, subject) {
+        return Err(Fault::Unseen);
     }
-    let laid = lay(list, description, subject);
-    fill(
-        values,
-        classes,
-        conditions,
-        shown,
-        owners,
-        description,
-        order,
-        relation,
-        part,
-        laid,
-    )
+    let laid = lay(list, table.part.description, subject);
+    fill(values, classes, conditions, shown, owners, table, laid)
 }

@@ -10,10 +10,7 @@ use Rattle.select.proofs.copy.Goals as goal
 -- The invariant: the values of the columns passed are written.
 
 pub loop-column-init : goal.loop-column-init
-loop-column-init c = (omega arith, refl, numbers-start _ _ _)
-
-pub overflow_add-column : goal.overflow_add-column
-overflow_add-column c = omega (arith, c.requires.sized.0.laid.narrow)
+loop-column-init c = numbers-start _ _ _
 
 pub value_at-requires : goal.value_at-requires
 value_at-requires c = record {
@@ -23,7 +20,7 @@ value_at-requires c = record {
     level = c.requires.sized.1.level.level;
     row = c.requires.sized.1.row;
     least = omega arith;
-    column = omega (arith, c.requires.sized.0.laid.columns, c.loop-column-test.true);
+    column = omega (arith, c.args.part.laid.columns, c.loop-column-test.true);
   });
 }
 
@@ -36,22 +33,9 @@ offset_bounds-shown-at c = omega (arith, c.requires.sized, c.requires.relation_i
 pub bounds-shown-at : goal.bounds-shown-at
 bounds-shown-at c = omega (arith, c.requires.sized, c.requires.relation_in_bounds)
 
-pub overflow_add-column-in-loop-column : goal.overflow_add-column-in-loop-column
-overflow_add-column-in-loop-column c = omega arith
-
-pub loop-column-smaller : goal.loop-column-smaller
-loop-column-smaller c = omega arith
-
 pub loop-column-preserved : goal.loop-column-preserved
-loop-column-preserved c = let l = c.loop-column in (
-  omega arith,
-  simp length-set l.invariant.1,
-  numbers_more _ _ _ _ l.invariant.2 (omega (arith, c.requires.relation_in_bounds, c.requires.sized.0.laid.columns)) (c.value_at.ensures ∙ rw add-one),
-)
-
-pub shape_of-shown : goal.shape_of-shown
-shape_of-shown c = c.loop-column.invariant.1
+loop-column-preserved c = numbers_more _ _ _ _ c.loop-column.invariant (omega (arith, c.requires.relation_in_bounds, c.args.part.laid.columns)) (c.value_at.ensures ∙ rw add-one)
 
 pub returns : goal.returns
 unfolding values_of
-returns c = numbers-end _ _ _ _ _ c.loop-column.invariant.2 (omega (arith, c.requires.sized.0.laid.columns, c.loop-column.invariant.0)) (omega (arith, c.requires.sized.0.laid.columns, c.loop-column-test.false))
+returns c = numbers-end _ _ _ _ _ c.loop-column.invariant (omega (arith, c.args.part.laid.columns, c.loop-column.auto.column-end)) (omega (arith, c.args.part.laid.columns, c.loop-column-test.false))

@@ -7,10 +7,4 @@ use Rattle.select.proofs.copy.Given as goal
 
 abbrev pub invariant-loop-column : goal.invariant-loop-column
 invariant-loop-column l =
-    (l.column ≤ l.columns)
-    × (length l.shown ≡ length l.initial.shown)
-    × (l.shown ≡ write_at l.at.values (list_below l.column (λ k. value_at l.d l.values l.relation l.level l.row (suc k))) l.initial.shown)
-
-abbrev pub decreases-loop-column : goal.decreases-loop-column
-decreases-loop-column l =
-    l.columns - l.column
+    (l.shown ≡ write_at l.at.values (list_below l.column (λ k. value_at l.part.description l.values l.part.relation l.level l.row (suc k))) l.initial.shown)

@@ -6,8 +6,4 @@ use Rattle.select.proofs.high.Given as goal
 
 abbrev pub invariant-loop-level : goal.invariant-loop-level
 invariant-loop-level l =
-    (l.level ≤ l.levels) × Holds (held l.initial.found ++ concat_below l.level (level_at l.d l.subject l.list l.height)) l.found
-
-abbrev pub decreases-loop-level : goal.decreases-loop-level
-decreases-loop-level l =
-    l.levels - l.level
+    Holds (held l.initial.found ++ concat_below l.level (level_at l.d l.subject l.list l.height)) l.found

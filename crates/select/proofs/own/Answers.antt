@@ -10,10 +10,7 @@ use Rattle.select.proofs.own.Goals as goal
 -- The invariant: the classes of the columns passed are written.
 
 pub loop-column-init : goal.loop-column-init
-loop-column-init c = (omega arith, refl, numbers-start _ _ _)
-
-pub overflow_add-column : goal.overflow_add-column
-overflow_add-column c = omega (arith, c.requires.sized.0.laid.narrow)
+loop-column-init c = numbers-start _ _ _
 
 pub class_at-requires : goal.class_at-requires
 class_at-requires c = record {
@@ -23,7 +20,7 @@ class_at-requires c = record {
     level = c.requires.sized.1.level.level;
     row = c.requires.sized.1.row;
     least = omega arith;
-    column = omega (arith, c.requires.sized.0.laid.columns, c.loop-column-test.true);
+    column = omega (arith, c.args.part.laid.columns, c.loop-column-test.true);
   });
 }
 
@@ -33,22 +30,9 @@ overflow_add-owners c = omega (arith, c.requires.sized, c.requires.level_bound)
 pub bounds-owners-at : goal.bounds-owners-at
 bounds-owners-at c = omega (arith, c.requires.sized, c.requires.level_bound)
 
-pub overflow_add-column-in-loop-column : goal.overflow_add-column-in-loop-column
-overflow_add-column-in-loop-column c = omega arith
-
-pub loop-column-smaller : goal.loop-column-smaller
-loop-column-smaller c = omega arith
-
 pub loop-column-preserved : goal.loop-column-preserved
-loop-column-preserved c = let l = c.loop-column in (
-  omega arith,
-  simp length-set l.invariant.1,
-  numbers_more _ _ _ _ l.invariant.2 (omega (arith, c.requires.level_bound, c.requires.sized.0.laid.columns)) (c.class_at.ensures ∙ rw add-one),
-)
-
-pub shape_of-owners : goal.shape_of-owners
-shape_of-owners c = simp length-set c.loop-column.invariant.1
+loop-column-preserved c = numbers_more _ _ _ _ c.loop-column.invariant (omega (arith, c.requires.level_bound, c.args.part.laid.columns)) (c.class_at.ensures ∙ rw add-one)
 
 pub returns : goal.returns
 returns c = let l = c.loop-column in
-    owners-end _ _ _ _ _ _ _ _ _ l.invariant.2 l.invariant.0 c.loop-column-test.false c.requires.sized.0.laid.columns c.requires.level_bound.1
+    owners-end _ _ _ _ _ _ _ _ _ l.invariant l.auto.column-end c.loop-column-test.false c.args.part.laid.columns c.requires.level_bound.1

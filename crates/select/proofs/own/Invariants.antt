@@ -7,10 +7,4 @@ use Rattle.select.proofs.own.Given as goal
 
 abbrev pub invariant-loop-column : goal.invariant-loop-column
 invariant-loop-column l =
-    (l.column ≤ l.last)
-    × (length l.owners ≡ length l.initial.owners)
-    × (l.owners ≡ write_at l.at.owners (list_below l.column (λ k. class_at l.d l.classes l.relation l.level l.row (suc k))) l.initial.owners)
-
-abbrev pub decreases-loop-column : goal.decreases-loop-column
-decreases-loop-column l =
-    l.last - l.column
+    (l.owners ≡ write_at l.at.owners (list_below l.column (λ k. class_at l.part.description l.classes l.part.relation l.level l.row (suc k))) l.initial.owners)

@@ -1,8 +1,5 @@
-use Rattle.select.proofs.Selected.{few-levels, ordered, lent, asking, in-levels, unseen, selected}
+use Rattle.select.proofs.Selected.{few-levels, lent, in-levels, unseen, selected}
 use Rattle.select.proofs.select.Goals as goal
-
-pub seen-requires : goal.seen-requires
-seen-requires c = ordered c.requires.standing
 
 pub returns-then-not-seen : goal.returns-then-not-seen
 returns-then-not-seen c = unseen c.requires.standing _ _ _ _ c.seen.ensures c.if-not-seen.true
@@ -11,7 +8,7 @@ pub lay-laid-requires : goal.lay-laid-requires
 lay-laid-requires c = few-levels c.requires.standing
 
 pub fill-requires : goal.fill-requires
-fill-requires c = record { lent = (lent c.requires.standing, in-levels c.requires.standing _ c.lay-laid.ensures); asking = asking c.requires.standing c.requires.formed_list.1 }
+fill-requires c = record { lent = (lent c.requires.standing, in-levels c.requires.standing _ c.lay-laid.ensures); asking = record { ordered = c.args.table.ordered; formed = c.requires.formed_list.1 } }
 
 pub returns : goal.returns
 returns c = selected c.requires.standing _ _ _ _ c.seen.ensures c.if-not-seen.false c.lay-laid.ensures c.fill.ensures

@@ -9,11 +9,4 @@ use Rattle.select.proofs.show.Given as goal
 
 abbrev pub invariant-loop-row : goal.invariant-loop-row
 invariant-loop-row l =
-    (l.row ≤ l.rows)
-    × (length l.shown ≡ length l.initial.shown)
-    × (length l.owners ≡ length l.initial.owners)
-    × Wrote (concat_below l.row (row_found l.d l.relation l.conditions (state_of l.d (holding l.values l.classes)) l.level)) l.initial.at l.at l.initial.shown l.initial.owners l.shown l.owners
-
-abbrev pub decreases-loop-row : goal.decreases-loop-row
-decreases-loop-row l =
-    l.rows - l.row
+    Wrote (concat_below l.row (row_found l.table.part.description l.table.part.relation l.conditions (state_of l.table.part.description (holding l.values l.classes)) l.level)) l.initial.at l.at l.initial.shown l.initial.owners l.shown l.owners
