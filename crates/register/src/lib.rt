@@ -10,7 +10,8 @@ ghost use Rattle.model.specs.Buffers.{holding};
 ghost use Rattle.model.specs.Ledger.{lending};
 ghost use Rattle.register.specs.Calls.{Runs};
 
-use model::{Answer, Description, Fault, Statement, Verdict};
+use asked::levels::Levels;
+use model::{Answer, Description, Statement, Verdict};
 
 // What is to be said of a description and two buffers: the first of what is wrong.
 pub fn judge(description: Description, values: &[u32], classes: &[u8]) -> Verdict
@@ -32,23 +33,11 @@ pub fn run(
 ) -> Answer
     ensures { Runs description statement list conditions values classes shown owners result }
 {
-    let levels = description.levels as usize;
     let labels = description.labels;
-    let order = level::order(labels, levels);
-    match judge::verdict(description, order, values, classes) {
-        Verdict::Description => Answer::Refused(Fault::Description),
-        Verdict::Length => Answer::Refused(Fault::Length),
-        Verdict::Illegal => Answer::Refused(Fault::Illegal),
-        Verdict::Legal => serve::serve(
-            values,
-            classes,
-            list,
-            conditions,
-            shown,
-            owners,
-            description,
-            order,
-            statement,
-        ),
-    }
+    let order = level::order(labels, description.levels as usize);
+    judge::verdict(description, order, values, classes)?;
+    let levels = Levels { description, order };
+    serve::serve(
+        values, classes, list, conditions, shown, owners, levels, statement,
+    )
 }

@@ -5,10 +5,12 @@ ghost use Rattle.register.specs.Facts.{Judged};
 ghost use Rattle.register.specs.Calls.{request, Runs, Carries};
 
 use crate::formed;
+use asked::levels::Levels;
+use asked::table::Table;
 use cells::layout::lay;
 use delete::delete;
 use insert::insert;
-use model::{Answer, Description, Fault, Statement, What};
+use model::{Answer, Fault, Statement, What};
 use select::select;
 use update::update;
 use uplevel::uplevel;
@@ -21,74 +23,26 @@ fn carry(
     conditions: &[u32],
     shown: &mut [u32],
     owners: &mut [u8],
-    description: Description,
-    order: [[bool; 16]; 16],
+    levels: Levels,
     statement: Statement,
 ) -> Answer
-    requires judged { Judged description order values.old classes.old }
-    requires well_formed { formed_of description (request statement list.now conditions.now shown.old owners.old) ≡ true }
-    ensures { Carries description statement list conditions values classes shown owners result }
+    requires judged { Judged levels.description values.old classes.old }
+    requires well_formed { formed_of levels.description (request statement list.now conditions.now shown.old owners.old) ≡ true }
+    ensures { Carries levels.description statement list conditions values classes shown owners result }
 {
     let level = statement.level as usize;
-    let relation = statement.relation as usize;
-    let part = lay(description, relation);
-    let what = statement.what;
-    match what {
-        What::Insert => insert(
-            values,
-            classes,
-            list,
-            description,
-            order,
-            relation,
-            part,
-            level,
-        ),
-        What::Delete => delete(
-            values,
-            classes,
-            conditions,
-            description,
-            order,
-            relation,
-            part,
-            level,
-        ),
-        What::Update => update(
-            values,
-            classes,
-            list,
-            conditions,
-            description,
-            order,
-            relation,
-            part,
-            level,
-        ),
-        What::Uplevel { key, class } => uplevel(
-            values,
-            classes,
-            list,
-            description,
-            order,
-            relation,
-            part,
-            level,
-            key,
-            class as usize,
-        ),
+    let order = levels.order;
+    let part = lay(levels.description, statement.relation as usize);
+    let table = Table { part, order };
+    match statement.what {
+        What::Insert => insert(values, classes, list, table, level),
+        What::Delete => delete(values, classes, conditions, table, level),
+        What::Update => update(values, classes, list, conditions, table, level),
+        What::Uplevel { key, class } => {
+            uplevel(values, classes, list, table, level, key, class as usize)
+        }
         What::Select => select(
-            values,
-            classes,
-            list,
-            conditions,
-            shown,
-            owners,
-            description,
-            order,
-            relation,
-            part,
-            level,
+            values, classes, list, conditions, shown, owners, table, level,
         ),
     }
 }
@@ -101,25 +55,16 @@ pub(crate) fn serve(
     conditions: &[u32],
     shown: &mut [u32],
     owners: &mut [u8],
-    description: Description,
-    order: [[bool; 16]; 16],
+    levels: Levels,
     statement: Statement,
 ) -> Answer
-    requires { Judged description order values.old classes.old }
-    ensures { Runs description statement list conditions values classes shown owners result }
+    requires { Judged levels.description values.old classes.old }
+    ensures { Runs levels.description statement list conditions values classes shown owners result }
 {
-    if !formed::statement(list, conditions, description, order, statement) {
-        return Answer::Refused(Fault::Malformed);
+    if !formed::statement(list, conditions, levels, statement) {
+        return Err(Fault::Malformed);
     }
     carry(
-        values,
-        classes,
-        list,
-        conditions,
-        shown,
-        owners,
-        description,
-        order,
-        statement,
+        values, classes, list, conditions, shown, owners, levels, statement,
     )
 }
