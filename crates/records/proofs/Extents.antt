@@ -1,8 +1,8 @@
 -- How far the lists of a record reach, and that a whole record has room for neither more than 512 numbers in its list nor more in its
 -- conditions.
 -- Assumes nothing.
-use Rattle.std.specs.Prelude.{if◌then◌else◌}
-use Prim.Native.Nat.{ℕ, ◌+◌, ◌*◌, ◌≤◌}
+use Rattle.std.specs.Prelude.{if◌then◌else◌, Option, Some, None}
+use Prim.Native.Nat.{ℕ, ◌+◌, ◌*◌, ◌≤◌, ◌<◌}
 use mathlib.Core.Path.{◌≡◌}
 use mathlib.Core.Bool.{Bool, true, false}
 use mathlib.Core.List.{List}
@@ -15,7 +15,7 @@ use Rattle.records.specs.declared.kinds.Entry.{Entry}
 use Rattle.records.specs.declared.kinds.Entry.TheVariants as Entries
 use Rattle.records.specs.declared.kinds.Form.{Form}
 use Rattle.records.specs.Bytes.{pair}
-use Rattle.records.specs.Kinds.{is_kind, form_of}
+use Rattle.records.specs.Kinds.{width, numbers, is_kind, form_of}
 use Rattle.records.specs.Record.{whole, size_of}
 use Rattle.records.specs.Statements.{form, end_of, numbers_of, list_of, list_end, conditions_of, length_asked, is_statement}
 use Rattle.records.proofs.Written.{cells-length, fields-length, tests-length}
@@ -42,24 +42,30 @@ form-early kind =
 module _ (bytes : List ℕ) where
   -- ---- one list
 
-  pub end-behind : (entry : Entry) (at : ℕ) → at ≤ end_of bytes entry at
+  pub end-behind : (entry : Option Entry) (at : ℕ) → at ≤ end_of bytes entry at
   unfolding end_of
-  end-behind Entries.None at = omega arith
-  end-behind Entries.Level at = omega arith
-  end-behind Entries.Borrow at = omega arith
-  end-behind Entries.Cell at = omega arith
-  end-behind Entries.Condition at = omega arith
+  end-behind None at = omega arith
+  end-behind (Some entry) at = omega arith
 
-  pub room_as : {entry entry' : Entry} (at : ℕ) → entry ≡ entry' → end_of bytes entry at ≤ 1028 → end_of bytes entry' at ≤ 1028
-  room_as at p h = rw (← p) h
+  numbers-short : (entry : Option Entry) (at : ℕ) → 8 ≤ at → end_of bytes entry at ≤ 1028 → length (numbers_of bytes entry at) ≤ 512
+  unfolding end_of numbers_of width
+  numbers-short None at a h = omega arith
+  numbers-short (Some Entries.Level) at a h = omega (arith, fields-length bytes (at + 2) (pair bytes at))
+  numbers-short (Some Entries.Borrow) at a h = omega (arith, fields-length bytes (at + 2) (2 * pair bytes at))
+  numbers-short (Some Entries.Cell) at a h = omega (arith, cells-length bytes (at + 2) (pair bytes at))
+  numbers-short (Some Entries.Condition) at a h = omega (arith, tests-length bytes (at + 2) (pair bytes at))
 
-  numbers-short : (entry : Entry) (at : ℕ) → 8 ≤ at → end_of bytes entry at ≤ 1028 → length (numbers_of bytes entry at) ≤ 512
-  unfolding end_of numbers_of
-  numbers-short Entries.None at a h = omega arith
-  numbers-short Entries.Level at a h = omega (arith, fields-length bytes (at + 2) (pair bytes at))
-  numbers-short Entries.Borrow at a h = omega (arith, fields-length bytes (at + 2) (2 * pair bytes at))
-  numbers-short Entries.Cell at a h = omega (arith, cells-length bytes (at + 2) (pair bytes at))
-  numbers-short Entries.Condition at a h = omega (arith, tests-length bytes (at + 2) (pair bytes at))
+  -- each entry of a list that ends in the record begins there, and there is room for its numbers
+  pub record Within (entry : Entry) (at i : ℕ) : Type 0 where
+    pub begins : at + 2 + width entry * i ≤ 1028
+    pub room : numbers entry * i + numbers entry ≤ 512
+
+  pub entry-within : (entry : Entry) (at i : ℕ) → i < pair bytes at → 8 ≤ at → end_of bytes (Some entry) at ≤ 1028 → Within entry at i
+  unfolding end_of width numbers
+  entry-within Entries.Level at i l a h = record { begins = omega arith; room = omega arith }
+  entry-within Entries.Borrow at i l a h = record { begins = omega arith; room = omega arith }
+  entry-within Entries.Cell at i l a h = record { begins = omega arith; room = omega arith }
+  entry-within Entries.Condition at i l a h = record { begins = omega arith; room = omega arith }
 
   -- ---- how long a whole record is
 

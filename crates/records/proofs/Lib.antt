@@ -1,4 +1,3 @@
-pub mod Behind
 pub mod Written
 pub mod Extents
 pub mod Outcomes

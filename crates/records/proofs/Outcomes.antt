@@ -1,7 +1,8 @@
 -- The two outcomes of reading a record, and what an answer tells its caller.
 -- Assumes nothing.
+use Rattle.std.specs.Prelude.{Result, Ok, Err}
 use Prim.Native.Nat.{ℕ, ◌≤◌}
-use mathlib.Core.Path.{◌≡◌, sym, ◌∙◌}
+use mathlib.Core.Path.{◌≡◌, sym, ap, ◌∙◌}
 use mathlib.Core.Bool.{true, false}
 use mathlib.Core.List.{List}
 use native.Mathlib.Omega.{arith}
@@ -12,13 +13,12 @@ use Rattle.bounded.proofs.Cases.{cases}
 use Rattle.bounded.proofs.Lists.{write-none}
 use Rattle.model.specs.declared.Statement.{Statement}
 use Rattle.records.specs.declared.Read.{Read}
-use Rattle.records.specs.declared.Read.TheVariants as Reads
 use Rattle.records.specs.Statements.{list_of, conditions_of, statement_of, is_statement, read_of, list_read, conditions_read}
 use Rattle.records.specs.Facts.{Filled, Reading}
 use Rattle.records.proofs.Extents.{list-short, conditions-short}
 
 module _ (bytes : List ℕ) (number : ℕ) where
-  pub refused : {list conditions : List ℕ} → is_statement bytes ≡ false → Reading bytes number list list conditions conditions (Reads.Refused number)
+  pub refused : {list conditions : List ℕ} → is_statement bytes ≡ false → Reading bytes number list list conditions conditions (Err number)
   unfolding read_of list_read conditions_read
   refused e =
       record {
@@ -30,7 +30,7 @@ module _ (bytes : List ℕ) (number : ℕ) where
   pub done : {list list' conditions conditions' : List ℕ} {statement : Statement} {listed tested : ℕ}
       → is_statement bytes ≡ true → statement ≡ statement_of bytes
       → Filled (list_of bytes) list list' listed → Filled (conditions_of bytes) conditions conditions' tested
-      → Reading bytes number list list' conditions conditions' (Reads.Statement statement listed tested)
+      → Reading bytes number list list' conditions conditions' (Ok (record { statement = statement; listed = listed; tested = tested }))
   unfolding read_of list_read conditions_read
   done e s l t =
       record {
@@ -46,26 +46,28 @@ front : {n : ℕ} (s d : List ℕ) {e : List ℕ} → n ≡ length s → e ≡ w
 unfolding write_at
 front s d p q = rw (p, q) (take-append_seam s _)
 
-pub record Holds (bytes list conditions : List ℕ) (statement : Statement) (listed tested : ℕ) : Type 0 where
+pub record Holds (bytes list conditions : List ℕ) (read : Read) : Type 0 where
   pub is-statement : is_statement bytes ≡ true
-  pub statement-is : statement ≡ statement_of bytes
-  pub listed-short : listed ≤ 512
-  pub tested-short : tested ≤ 512
-  pub list-is : take listed list ≡ list_of bytes
-  pub conditions-is : take tested conditions ≡ conditions_of bytes
+  pub statement-is : read.statement ≡ statement_of bytes
+  pub listed-short : read.listed ≤ 512
+  pub tested-short : read.tested ≤ 512
+  pub list-is : take read.listed list ≡ list_of bytes
+  pub conditions-is : take read.tested conditions ≡ conditions_of bytes
 
-module _ {bytes : List ℕ} {number : ℕ} {list list' conditions conditions' : List ℕ} {answer : Read} (r : Reading bytes number list list' conditions conditions' answer) where
+module _ {bytes : List ℕ} {number : ℕ} {list list' conditions conditions' : List ℕ} {answer : Result Read ℕ} (r : Reading bytes number list list' conditions conditions' answer) where
   -- what is told where the answer is a statement
-  module _ {statement : Statement} {listed tested : ℕ} (e : answer ≡ Reads.Statement statement listed tested) where
-    holds-where : is_statement bytes ≡ true → Holds bytes list' conditions' statement listed tested
+  module _ {read : Read} (e : answer ≡ Ok read) where
+    holds-where : is_statement bytes ≡ true → Holds bytes list' conditions' read
     unfolding read_of list_read conditions_read
     holds-where t =
-        let a : Reads.Statement statement listed tested ≡ Reads.Statement (statement_of bytes) (length (list_of bytes)) (length (conditions_of bytes)) = sym e ∙ (r.answer-is ∙ rw t) in
-        let l : listed ≡ length (list_of bytes) = cc in
-        let c : tested ≡ length (conditions_of bytes) = cc in
+        let whole : Read = record { statement = statement_of bytes; listed = length (list_of bytes); tested = length (conditions_of bytes) } in
+        let a : ◌≡◌ {A = Result Read ℕ} (Ok read) (Ok whole) = sym e ∙ (r.answer-is ∙ rw t) in
+        let p : read ≡ whole = cc in
+        let l : read.listed ≡ length (list_of bytes) = ap (λ r. r.listed) p in
+        let c : read.tested ≡ length (conditions_of bytes) = ap (λ r. r.tested) p in
         record {
           is-statement = t;
-          statement-is = cc;
+          statement-is = ap (λ r. r.statement) p;
           listed-short = omega (arith, list-short bytes t);
           tested-short = omega (arith, conditions-short bytes t);
           list-is = front (list_of bytes) list l (r.list-is ∙ rw t);
@@ -75,25 +77,22 @@ module _ {bytes : List ℕ} {number : ℕ} {list list' conditions conditions' : 
     never : is_statement bytes ≡ false → ⊥
     unfolding read_of
     never f =
-        let a : Reads.Statement statement listed tested ≡ Reads.Refused number = sym e ∙ (r.answer-is ∙ rw f) in
-        let z : ◌≡◌ {A = ℕ} 0 1 = cc in
-        omega arith
+        let a : ◌≡◌ {A = Result Read ℕ} (Ok read) (Err number) = sym e ∙ (r.answer-is ∙ rw f) in cc
 
-    pub holds : Holds bytes list' conditions' statement listed tested
+    pub holds : Holds bytes list' conditions' read
     holds = cases (is_statement bytes) holds-where (λ f. absurd (never f))
 
   -- what is told where the answer is a refusal
-  module _ {told : ℕ} (e : answer ≡ Reads.Refused told) where
+  module _ {told : ℕ} (e : answer ≡ Err told) where
     refused-where : is_statement bytes ≡ false → told ≡ number
     unfolding read_of
-    refused-where f = let a : Reads.Refused told ≡ Reads.Refused number = sym e ∙ (r.answer-is ∙ rw f) in cc
+    refused-where f = let a : ◌≡◌ {A = Result Read ℕ} (Err told) (Err number) = sym e ∙ (r.answer-is ∙ rw f) in cc
 
     not-read : is_statement bytes ≡ true → ⊥
     unfolding read_of
     not-read t =
-        let a : Reads.Refused told ≡ Reads.Statement (statement_of bytes) (length (list_of bytes)) (length (conditions_of bytes)) = sym e ∙ (r.answer-is ∙ rw t) in
-        let z : ◌≡◌ {A = ℕ} 0 1 = cc in
-        omega arith
+        let whole : Read = record { statement = statement_of bytes; listed = length (list_of bytes); tested = length (conditions_of bytes) } in
+        let a : ◌≡◌ {A = Result Read ℕ} (Err told) (Ok whole) = sym e ∙ (r.answer-is ∙ rw t) in cc
 
     pub refuses : (is_statement bytes ≡ false) × (told ≡ number)
     refuses = cases (is_statement bytes) (λ t. absurd (not-read t)) (λ f. (f, refused-where f))

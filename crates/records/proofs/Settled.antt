@@ -1,6 +1,7 @@
 -- At most one outcome meets the promise of each public function, as the checker reads the promise from the source: one answer, and one number
 -- in each cell of both lent lists.
 -- Assumes nothing.
+use Rattle.std.specs.Prelude.{Result}
 use Prim.Native.Nat.{ℕ}
 use mathlib.Core.Path.{◌≡◌, sym, ◌∙◌}
 use mathlib.Core.List.{List}
@@ -43,12 +44,12 @@ kind-settled κs a x y e f p q = p ∙ sym q
 
 -- ---- one answer and two lists
 
-pub record One (a b : Read) (list conditions list' conditions' : List ℕ) : Type 0 where
+pub record One (a b : Result Read ℕ) (list conditions list' conditions' : List ℕ) : Type 0 where
   pub answer-is : a ≡ b
   pub list-is : list ≡ list'
   pub conditions-is : conditions ≡ conditions'
 
-one-read : {bytes : List ℕ} {number : ℕ} {list conditions l m c d : List ℕ} {a b : Read}
+one-read : {bytes : List ℕ} {number : ℕ} {list conditions l m c d : List ℕ} {a b : Result Read ℕ}
     → Reading bytes number list l conditions c a → Reading bytes number list m conditions d b → One a b l c m d
 one-read p q =
     record {

@@ -1,5 +1,6 @@
 -- Worked records: 01's five sample records, read to what they are, and records at the edges of what is refused.
 -- Assumes nothing.
+use Rattle.std.specs.Prelude.{Option, Some, None, Result, Ok, Err}
 use Prim.Native.Nat.{ℕ}
 use mathlib.Core.Path.{◌≡◌, refl}
 use mathlib.Core.Bool.{true, false}
@@ -9,7 +10,6 @@ use Rattle.bounded.specs.Bounded.{fold_below}
 use Rattle.model.specs.declared.What.TheVariants as Whats
 use Rattle.model.specs.declared.Description.{Description}
 use Rattle.records.specs.declared.Read.{Read}
-use Rattle.records.specs.declared.Read.TheVariants as Reads
 use Rattle.records.specs.Record.{kind_after}
 use Rattle.records.specs.Statements.{read_of, list_read, conditions_read}
 use Rattle.records.specs.Descriptions.{nothing, is_labels, labelled, is_related, related}
@@ -47,11 +47,11 @@ delete = 16 ∷ 0 ∷ 17 ∷ 0 ∷ 3 ∷ 0 ∷ 1 ∷ 0 ∷ 1 ∷ 0 ∷ 2 ∷ 0 �
 -- ---- their order
 
 -- the kinds of records, each after the last one
-abbrev kinds : ℕ → List (List ℕ) → List ℕ
+abbrev kinds : Option ℕ → List (List ℕ) → List (Option ℕ)
 kinds last [] = []
 kinds last (r ∷ rs) = kind_after last r ∷ kinds (kind_after last r) rs
 
-in_order_lem : kinds 0 (labels ∷ relation ∷ insert ∷ uplevel ∷ select ∷ []) ≡ 1 ∷ 2 ∷ 16 ∷ 19 ∷ 20 ∷ []
+in_order_lem : kinds None (labels ∷ relation ∷ insert ∷ uplevel ∷ select ∷ []) ≡ Some 1 ∷ Some 2 ∷ Some 16 ∷ Some 19 ∷ Some 20 ∷ []
 unfolding decoded
 in_order_lem = refl
 
@@ -60,65 +60,65 @@ abbrev bare : ℕ → List ℕ
 bare k = 0 ∷ 0 ∷ k ∷ 0 ∷ []
 
 -- "out of order, of unknown kind": a statement first, a second kind 1, kind 2 after kind 3, kind 3 after a statement, kinds 0, 4, 15 and 21
-out_of_order : kind_after 0 insert ∷ kind_after 1 labels ∷ kind_after 3 relation ∷ kind_after 16 (bare 3) ∷ kind_after 20 (bare 0) ∷ kind_after 20 (bare 4) ∷ kind_after 20 (bare 15) ∷ kind_after 20 (bare 21) ∷ [] ≡ replicate 8 0
+out_of_order : kind_after None insert ∷ kind_after (Some 1) labels ∷ kind_after (Some 3) relation ∷ kind_after (Some 16) (bare 3) ∷ kind_after (Some 20) (bare 0) ∷ kind_after (Some 20) (bare 4) ∷ kind_after (Some 20) (bare 15) ∷ kind_after (Some 20) (bare 21) ∷ [] ≡ replicate 8 None
 unfolding decoded
 out_of_order = refl
 
 -- "cut": no header, a byte short; a byte too many
-cut : kind_after 2 [] ∷ kind_after 2 (take 3 insert) ∷ kind_after 2 (take 21 insert) ∷ kind_after 2 (insert ++ (0 ∷ [])) ∷ [] ≡ replicate 4 0
+cut : kind_after (Some 2) [] ∷ kind_after (Some 2) (take 3 insert) ∷ kind_after (Some 2) (take 21 insert) ∷ kind_after (Some 2) (insert ++ (0 ∷ [])) ∷ [] ≡ replicate 4 None
 unfolding decoded
 cut = refl
 
 -- "a body over 1,024 bytes": 1,024 are accepted, 1,025 are not
-longest : kind_after 0 (0 ∷ 4 ∷ 1 ∷ 0 ∷ replicate 1024 0) ∷ kind_after 0 (1 ∷ 4 ∷ 1 ∷ 0 ∷ replicate 1025 0) ∷ [] ≡ 1 ∷ 0 ∷ []
+longest : kind_after None (0 ∷ 4 ∷ 1 ∷ 0 ∷ replicate 1024 0) ∷ kind_after None (1 ∷ 4 ∷ 1 ∷ 0 ∷ replicate 1025 0) ∷ [] ≡ Some 1 ∷ None ∷ []
 unfolding decoded
 longest = refl
 
 -- ---- what the statements are
 
-record Told (bytes : List ℕ) (answer : Read) (list conditions : List ℕ) : Type 0 where
+record Told (bytes : List ℕ) (answer : Result Read ℕ) (list conditions : List ℕ) : Type 0 where
   answer-is : read_of bytes 9 ≡ answer
   list-is : list_read bytes ≡ list
   conditions-is : conditions_read bytes ≡ conditions
 
-insert-told : Told insert (Reads.Statement (record { level = 0; relation = 1; what = Whats.Insert }) 4 0) (1 ∷ 7 ∷ 2 ∷ 20 ∷ []) []
+insert-told : Told insert (Ok (record { statement = record { level = 0; relation = 1; what = Whats.Insert }; listed = 4; tested = 0 })) (1 ∷ 7 ∷ 2 ∷ 20 ∷ []) []
 unfolding decoded
 insert-told = record { answer-is = refl; list-is = refl; conditions-is = refl }
 
-uplevel-told : Told uplevel (Reads.Statement (record { level = 1; relation = 1; what = (Whats.Uplevel 7 255) }) 2 0) (2 ∷ 0 ∷ []) []
+uplevel-told : Told uplevel (Ok (record { statement = record { level = 1; relation = 1; what = (Whats.Uplevel 7 255) }; listed = 2; tested = 0 })) (2 ∷ 0 ∷ []) []
 unfolding decoded
 uplevel-told = record { answer-is = refl; list-is = refl; conditions-is = refl }
 
-select_told : Told select (Reads.Statement (record { level = 1; relation = 1; what = Whats.Select }) 2 0) (1 ∷ 0 ∷ []) []
+select_told : Told select (Ok (record { statement = record { level = 1; relation = 1; what = Whats.Select }; listed = 2; tested = 0 })) (1 ∷ 0 ∷ []) []
 unfolding decoded
 select_told = record { answer-is = refl; list-is = refl; conditions-is = refl }
 
-update-told : Told update (Reads.Statement (record { level = 3; relation = 1; what = Whats.Update }) 2 4) (3 ∷ 32 ∷ []) (2 ∷ 0 ∷ 1 ∷ 70000 ∷ [])
+update-told : Told update (Ok (record { statement = record { level = 3; relation = 1; what = Whats.Update }; listed = 2; tested = 4 })) (3 ∷ 32 ∷ []) (2 ∷ 0 ∷ 1 ∷ 70000 ∷ [])
 unfolding decoded
 update-told = record { answer-is = refl; list-is = refl; conditions-is = refl }
 
-delete-told : Told delete (Reads.Statement (record { level = 3; relation = 1; what = Whats.Delete }) 0 4) [] (2 ∷ 0 ∷ 1 ∷ 70000 ∷ [])
+delete-told : Told delete (Ok (record { statement = record { level = 3; relation = 1; what = Whats.Delete }; listed = 0; tested = 4 })) [] (2 ∷ 0 ∷ 1 ∷ 70000 ∷ [])
 unfolding decoded
 delete-told = record { answer-is = refl; list-is = refl; conditions-is = refl }
 
 -- no statement, "cut", and a count that the body cannot hold or that leaves bytes over
-labels-told : Told labels (Reads.Refused 9) [] []
+labels-told : Told labels (Err 9) [] []
 unfolding decoded
 labels-told = record { answer-is = refl; list-is = refl; conditions-is = refl }
 
-cut-told : Told (take 21 insert) (Reads.Refused 9) [] []
+cut-told : Told (take 21 insert) (Err 9) [] []
 unfolding decoded
 cut-told = record { answer-is = refl; list-is = refl; conditions-is = refl }
 
-over-told : Told (insert ++ (0 ∷ [])) (Reads.Refused 9) [] []
+over-told : Told (insert ++ (0 ∷ [])) (Err 9) [] []
 unfolding decoded
 over-told = record { answer-is = refl; list-is = refl; conditions-is = refl }
 
-three-told : Told (take 8 insert ++ (3 ∷ replicate 13 0)) (Reads.Refused 9) [] []
+three-told : Told (take 8 insert ++ (3 ∷ replicate 13 0)) (Err 9) [] []
 unfolding decoded
 three-told = record { answer-is = refl; list-is = refl; conditions-is = refl }
 
-one_told : Told (take 8 insert ++ (1 ∷ replicate 13 0)) (Reads.Refused 9) [] []
+one_told : Told (take 8 insert ++ (1 ∷ replicate 13 0)) (Err 9) [] []
 unfolding decoded
 one_told = record { answer-is = refl; list-is = refl; conditions-is = refl }
 

@@ -1,13 +1,20 @@
 -- Numbers written into a lent list: stores one behind the other are one piece, and how many numbers the lists of a statement have.
 -- Assumes nothing.
-use Prim.Native.Nat.{ℕ, zero, suc, ◌+◌, ◌*◌, ◌≤◌, ◌<◌}
+use Rattle.std.specs.Prelude.{Some}
+use Prim.Native.Nat.{ℕ, zero, suc, ◌+◌, ◌*◌, ◌-◌, ◌≤◌, ◌<◌}
 use mathlib.Core.Path.{◌≡◌, refl, sym, ap, ◌∙◌}
-use mathlib.Core.List.{List, [], ◌∷◌, append-nil}
+use mathlib.Core.List.{List, [], ◌∷◌, ◌++◌, append-nil, append_assoc}
 use native.Mathlib.Omega.{arith}
-use lib.ListN.{length, set, length-append, drop_of_length-le}
+use borrow.Rule.Slice.PartMut.{put_mid}
+use lib.ListN.{length, take, drop, set, length-append, length-drop, drop_of_length-le}
+use lib.Seq.{take_all, drop-drop}
 use Rattle.bounded.specs.Lists.{list_below, concat_below, write_at}
-use Rattle.bounded.proofs.Lists.{write-none, write-more, list_length, numbers_more}
-use Rattle.records.specs.Bytes.{fields_from, cells_from, tests_from}
+use Rattle.bounded.proofs.Lists.{write-none, write-more, list_length, numbers_more, pieces_more}
+use Rattle.records.specs.declared.kinds.Entry.{Entry}
+use Rattle.records.specs.declared.kinds.Entry.TheVariants as Entries
+use Rattle.records.specs.Bytes.{pair, fields_from, cells_from, tests_from}
+use Rattle.records.specs.Kinds.{width, numbers}
+use Rattle.records.specs.Statements.{entry_at, numbers_of}
 use Rattle.records.specs.Facts.{Filled}
 
 module _ {A : Type 0} where
@@ -24,7 +31,7 @@ module _ {A : Type 0} where
       let k : 0 + n < length d₀ = omega arith in
       ap (λ m. set d m x) (sym z) ∙ numbers_more n 0 f d₀ p k e
 
-  write-one : (n : ℕ) (d : List A) (a : A) → n < length d → set d n a ≡ write_at n (a ∷ []) d
+  pub write-one : (n : ℕ) (d : List A) (a : A) → n < length d → set d n a ≡ write_at n (a ∷ []) d
   write-one n d a h =
       let z : n ≡ n + 0 = omega arith in
       let k : n + 0 < length d = omega arith in
@@ -40,6 +47,14 @@ module _ {A : Type 0} where
       let k : n + 2 ≤ length d = omega arith in
       ap (λ l. set (set l (n + 2) x) (n + 3) y) (write_two n d a b k)
       ∙ (ap (λ l. set l (n + 3) y) (write-more n (a ∷ b ∷ []) d x (omega arith)) ∙ write-more n (a ∷ b ∷ x ∷ []) d y (omega arith))
+
+  -- a piece written at the front of what stands from a place on
+  pub write-part : (n : ℕ) (s d : List A) → n ≤ length d → put_mid n (length d - n) d (write_at 0 s (take (length d - n) (drop n d))) ≡ write_at n s d
+  unfolding write_at
+  write-part n s d h =
+      let k : length (drop n d) ≤ length d - n = omega (arith, length-drop n d) in
+      let z : 0 + length s ≡ length s = omega arith in
+      rw (take_all (length d - n) (drop n d) k, drop_of_length-le (drop n d) k, append-nil, z, drop-drop (length s) n d)
 
   -- pieces of k numbers each
   pub pieces-length : (n k : ℕ) (g : ℕ → List A) → ((i : ℕ) → length (g i) ≡ k) → length (concat_below n g) ≡ k * n
@@ -61,6 +76,54 @@ cells-length bytes at n = pieces-length n 2 _ (λ i. refl)
 pub tests-length : (bytes : List ℕ) (at n : ℕ) → length (tests_from bytes at n) ≡ 4 * n
 unfolding tests_from
 tests-length bytes at n = pieces-length n 4 _ (λ i. refl)
+
+-- ---- entry after entry
+
+pub entry-length : (bytes : List ℕ) (entry : Entry) (at : ℕ) → length (entry_at bytes entry at) ≡ numbers entry
+unfolding entry_at numbers
+entry-length bytes Entries.Level at = refl
+entry-length bytes Entries.Borrow at = refl
+entry-length bytes Entries.Cell at = refl
+entry-length bytes Entries.Condition at = refl
+
+-- the numbers of the entries before the one at i
+pub entries-length : (bytes : List ℕ) (entry : Entry) (at i : ℕ) → length (concat_below i (λ j. entry_at bytes entry (at + width entry * j))) ≡ numbers entry * i
+entries-length bytes entry at i = pieces-length i (numbers entry) _ (λ j. entry-length bytes entry (at + width entry * j))
+
+-- one entry more, put where those before it end
+pub entry-more : (bytes : List ℕ) (entry : Entry) (at i : ℕ) (lent list : List ℕ) {n w : ℕ} {piece : List ℕ} → n ≡ numbers entry → w ≡ width entry
+    → length list ≡ length lent → numbers entry * i + numbers entry ≤ length lent
+    → list ≡ write_at 0 (concat_below i (λ j. entry_at bytes entry (at + width entry * j))) lent
+    → piece ≡ write_at 0 (entry_at bytes entry (at + w * i)) (take (length list - n * i) (drop (n * i) list))
+    → put_mid (n * i) (length list - n * i) list piece ≡ write_at 0 (concat_below (i + 1) (λ j. entry_at bytes entry (at + width entry * j))) lent
+entry-more bytes entry at i lent list {n} {w} {piece} n-is w-is l h e p =
+    let a : n * i ≡ numbers entry * i = rw n-is in
+    let k : n * i ≤ length list = omega arith in
+    let m : n * i ≡ length (concat_below i (λ j. entry_at bytes entry (at + width entry * j))) = a ∙ sym (entries-length bytes entry at i) in
+    pieces_more i (n * i) (λ j. entry_at bytes entry (at + width entry * j)) lent m (omega (arith, entry-length bytes entry (at + width entry * i))) e
+    (rw p (write-part (n * i) _ list k ∙ rw w-is))
+
+levels-each : (bytes : List ℕ) (at n : ℕ) → fields_from bytes at n ≡ concat_below n (λ i. pair bytes (at + 2 * i) ∷ [])
+unfolding fields_from list_below concat_below
+levels-each bytes at zero = refl
+levels-each bytes at (suc n) = ap (λ l. l ++ (pair bytes (at + 2 * n) ∷ [])) (levels-each bytes at n)
+
+borrows-each : (bytes : List ℕ) (at n : ℕ) → fields_from bytes at (2 * n) ≡ concat_below n (λ i. pair bytes (at + 4 * i) ∷ pair bytes (at + 4 * i + 2) ∷ [])
+unfolding fields_from list_below concat_below
+borrows-each bytes at zero = refl
+borrows-each bytes at (suc n) =
+    let e : 2 * suc n ≡ suc (suc (2 * n)) = omega arith in
+    let p : at + 2 * (2 * n) ≡ at + 4 * n = omega arith in
+    let q : at + 2 * suc (2 * n) ≡ at + 4 * n + 2 = omega arith in
+    rw (e, p, q, append_assoc) (ap (λ l. l ++ (pair bytes (at + 4 * n) ∷ pair bytes (at + 4 * n + 2) ∷ [])) (borrows-each bytes at n))
+
+-- a list is its entries, one behind the other
+pub numbers-each : (bytes : List ℕ) (entry : Entry) (at : ℕ) → numbers_of bytes (Some entry) at ≡ concat_below (pair bytes at) (λ i. entry_at bytes entry (at + 2 + width entry * i))
+unfolding numbers_of entry_at width cells_from tests_from
+numbers-each bytes Entries.Level at = levels-each bytes (at + 2) (pair bytes at)
+numbers-each bytes Entries.Borrow at = borrows-each bytes (at + 2) (pair bytes at)
+numbers-each bytes Entries.Cell at = refl
+numbers-each bytes Entries.Condition at = refl
 
 pub filled : {numbers written lent lent' : List ℕ} {count : ℕ} → numbers ≡ written → length written ≡ count → lent' ≡ write_at 0 written lent → Filled numbers lent lent' count
 filled p e w = record { count-is = rw p (sym e); lent_is = rw p w }

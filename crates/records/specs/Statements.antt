@@ -1,6 +1,6 @@
 -- A record read to a statement or to its place of refusal (01, "mlrun"). Places count from the record's first byte, its header included.
 -- Assumes nothing: these are definitions.
-use Rattle.std.specs.Prelude.{ℕ, ◌+◌, ◌*◌, Bool, ◌&&◌, List, [], eqb, length, if◌then◌else◌}
+use Rattle.std.specs.Prelude.{ℕ, ◌+◌, ◌*◌, Bool, ◌&&◌, List, [], ◌∷◌, eqb, length, if◌then◌else◌, Option, Some, None, Result, Ok, Err}
 use Rattle.model.specs.declared.What.{What}
 use Rattle.model.specs.declared.What.TheVariants as Whats
 use Rattle.model.specs.declared.Statement.{Statement}
@@ -8,10 +8,9 @@ use Rattle.records.specs.declared.kinds.Entry.{Entry}
 use Rattle.records.specs.declared.kinds.Entry.TheVariants as Entries
 use Rattle.records.specs.declared.kinds.Form.{Form}
 use Rattle.records.specs.declared.Read.{Read}
-use Rattle.records.specs.declared.Read.TheVariants as Reads
-use Rattle.records.specs.Bytes.{pair, quad, fields_from, cells_from, tests_from}
+use Rattle.records.specs.Bytes.{pair, quad, cell_at, test_at, fields_from, cells_from, tests_from}
 use Rattle.records.specs.Record.{whole}
-use Rattle.records.specs.Kinds.{is_kind, form_of}
+use Rattle.records.specs.Kinds.{width, is_kind, form_of}
 
 abbrev pub kind : List ℕ → ℕ
 kind bytes = pair bytes 2
@@ -35,20 +34,24 @@ statement_of bytes = record { level = pair bytes 4; relation = pair bytes 6; wha
 -- ---- its lists: "n, n of .."
 
 -- where a list ends that begins at a place
-unfoldable pub end_of : List ℕ → Entry → ℕ → ℕ
-end_of bytes Entries.None at = at
-end_of bytes Entries.Level at = at + 2 + 2 * pair bytes at
-end_of bytes Entries.Borrow at = at + 2 + 4 * pair bytes at
-end_of bytes Entries.Cell at = at + 2 + 6 * pair bytes at
-end_of bytes Entries.Condition at = at + 2 + 10 * pair bytes at
+unfoldable pub end_of : List ℕ → Option Entry → ℕ → ℕ
+end_of bytes None at = at
+end_of bytes (Some entry) at = at + 2 + width entry * pair bytes at
+
+-- the numbers of the entry at a place
+unfoldable pub entry_at : List ℕ → Entry → ℕ → List ℕ
+entry_at bytes Entries.Level at = pair bytes at ∷ []
+entry_at bytes Entries.Borrow at = pair bytes at ∷ pair bytes (at + 2) ∷ []
+entry_at bytes Entries.Cell at = cell_at bytes at
+entry_at bytes Entries.Condition at = test_at bytes at
 
 -- its numbers
-unfoldable pub numbers_of : List ℕ → Entry → ℕ → List ℕ
-numbers_of bytes Entries.None at = []
-numbers_of bytes Entries.Level at = fields_from bytes (at + 2) (pair bytes at)
-numbers_of bytes Entries.Borrow at = fields_from bytes (at + 2) (2 * pair bytes at)
-numbers_of bytes Entries.Cell at = cells_from bytes (at + 2) (pair bytes at)
-numbers_of bytes Entries.Condition at = tests_from bytes (at + 2) (pair bytes at)
+unfoldable pub numbers_of : List ℕ → Option Entry → ℕ → List ℕ
+numbers_of bytes None at = []
+numbers_of bytes (Some Entries.Level) at = fields_from bytes (at + 2) (pair bytes at)
+numbers_of bytes (Some Entries.Borrow) at = fields_from bytes (at + 2) (2 * pair bytes at)
+numbers_of bytes (Some Entries.Cell) at = cells_from bytes (at + 2) (pair bytes at)
+numbers_of bytes (Some Entries.Condition) at = tests_from bytes (at + 2) (pair bytes at)
 
 -- the statement's list, and where it ends
 unfoldable pub list_of : List ℕ → List ℕ
@@ -73,10 +76,14 @@ is_statement bytes = whole bytes && (is_kind (kind bytes) && eqb (length bytes) 
 
 -- "a record is read to a statement or to its place of refusal": the statement and how many numbers its list and its conditions have, or the
 -- number of the record
-unfoldable pub read_of : List ℕ → ℕ → Read
+unfoldable pub read_of : List ℕ → ℕ → Result Read ℕ
 read_of bytes number =
-    if is_statement bytes then Reads.Statement (statement_of bytes) (length (list_of bytes)) (length (conditions_of bytes))
-    else Reads.Refused number
+    if is_statement bytes then Ok (record {
+      statement = statement_of bytes;
+      listed = length (list_of bytes);
+      tested = length (conditions_of bytes);
+    })
+    else Err number
 
 -- what is read into the lent lists: nothing of a record that is refused
 unfoldable pub list_read : List ℕ → List ℕ

@@ -1,25 +1,27 @@
 // Numbers in bytes, little-endian. A byte behind the end counts 0.
-ghost use Rattle.std.specs.Prelude.{◌≡◌, ◌≤◌, get_or};
+ghost use Rattle.std.specs.Prelude.{◌≡◌, ◌≤◌, get_or, drop};
 ghost use Rattle.records.specs.Bytes.{pair as pair_of, quad as quad_of};
 
-// One byte.
-fn byte(bytes: &[u8], at: usize) -> u16
-    ensures { (result ≡ get_or bytes.now at 0) × (result ≤ 255) }
+// What stands from a place on, nothing from behind the end.
+fn rest(bytes: &[u8], at: usize) -> &[u8]
+    ensures { result.now ≡ drop at bytes.now }
 {
-    if bytes.len() <= at {
-        return 0;
-    }
-    bytes[at] as u16
+    bytes.get(at..).unwrap_or(&[])
+}
+
+// One byte.
+fn byte(bytes: &[u8], at: usize) -> u8
+    ensures { result ≡ get_or bytes.now at 0 }
+{
+    bytes.get(at).copied().unwrap_or(0)
 }
 
 // Two bytes.
 pub fn pair(bytes: &[u8], at: usize) -> u16
     ensures { result ≡ pair_of bytes.now at }
 {
-    if bytes.len() <= at {
-        return 0;
-    }
-    byte(bytes, at) + 256 * byte(bytes, at + 1)
+    let rest = rest(bytes, at);
+    u16::from_le_bytes([byte(rest, 0), byte(rest, 1)])
 }
 
 // Two bytes, for a list of numbers of four.
@@ -40,12 +42,6 @@ pub(crate) fn count(bytes: &[u8], at: usize) -> usize
 pub fn quad(bytes: &[u8], at: usize) -> u32
     ensures { result ≡ quad_of bytes.now at }
 {
-    let low = field(bytes, at);
-    if bytes.len() <= at {
-        return low;
-    }
-    if bytes.len() - at <= 2 {
-        return low;
-    }
-    low + 65536 * field(bytes, at + 2)
+    let rest = rest(bytes, at);
+    u32::from_le_bytes([byte(rest, 0), byte(rest, 1), byte(rest, 2), byte(rest, 3)])
 }

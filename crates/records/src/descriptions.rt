@@ -8,6 +8,7 @@ use crate::bytes::{count, pair};
 use model::Description;
 
 // The description before any record.
+#[tactic(auto, unfolding(crate::specs::Descriptions::nothing))]
 pub fn nothing() -> Description
     ensures { result ≡ nothing_of }
 {
@@ -27,6 +28,7 @@ pub fn nothing() -> Description
 // ---- labels
 
 // Whether a record holds labels and nothing else.
+#[tactic(auto, unfolding(crate::specs::Descriptions::is_labels))]
 pub fn is_labels(bytes: &[u8]) -> bool
     ensures { result ≡ is_labels bytes.now }
 {
@@ -34,27 +36,23 @@ pub fn is_labels(bytes: &[u8]) -> bool
 }
 
 // How many labels a record holds.
+#[tactic(auto, unfolding(crate::specs::Descriptions::label_count))]
 fn label_count(bytes: &[u8]) -> usize
     ensures { (result ≡ label_count bytes.now) × (result ≤ 512) }
 {
-    if bytes.len() < 4 {
-        return 0;
-    }
-    let labels = (bytes.len() - 4) / 2;
-    if 512 < labels {
-        return 512;
-    }
-    labels
+    (bytes.len().saturating_sub(4) / 2).min(512)
 }
 
 // The label of a level, 0 where the record holds none.
+#[tactic(auto, unfolding(crate::specs::Descriptions::label_at))]
 fn label(bytes: &[u8], level: usize) -> u16
     ensures { result ≡ label_at bytes.now level }
 {
-    if label_count(bytes) <= level {
-        return 0;
+    if level < label_count(bytes) {
+        pair(bytes, 4 + 2 * level)
+    } else {
+        0
     }
-    pair(bytes, 4 + 2 * level)
 }
 
 // The labels of sixteen levels.
@@ -62,28 +60,28 @@ fn sixteen(bytes: &[u8]) -> [u16; 16]
     ensures { result ≡ labels_of bytes.now }
 {
     let mut labels = [0u16; 16];
-    let mut level = 0;
-    while level < 16 {
+    for level in 0..16 {
         labels[level] = label(bytes, level);
-        level += 1;
     }
     labels
 }
 
 // The description with these labels.
+#[tactic(auto, unfolding(crate::specs::Descriptions::labelled))]
 pub fn labels(bytes: &[u8], description: Description) -> Description
     ensures { result ≡ labelled description bytes.now }
 {
-    let mut next = description;
-    next.levels = label_count(bytes) as u16;
-    let labels = sixteen(bytes);
-    next.labels = labels;
-    next
+    Description {
+        levels: label_count(bytes) as u16,
+        labels: sixteen(bytes),
+        ..description
+    }
 }
 
 // ---- relations
 
 // Whether a record is as long as its count of columns asks.
+#[tactic(auto, unfolding(crate::specs::Descriptions::is_related))]
 pub fn is_relation(bytes: &[u8]) -> bool
     ensures { result ≡ is_related bytes.now }
 {
@@ -94,11 +92,7 @@ pub fn is_relation(bytes: &[u8]) -> bool
 fn held(bytes: &[u8]) -> usize
     ensures { (result ≡ min (pair_of bytes.now 4) 8) × (result ≤ 8) }
 {
-    let columns = count(bytes, 4);
-    if 8 < columns {
-        return 8;
-    }
-    columns
+    count(bytes, 4).min(8)
 }
 
 // The ends of the columns' ranges, from a place of the record on.
@@ -108,43 +102,40 @@ fn ends(bytes: &[u8], at: usize, relation: usize, before: [u16; 81]) -> [u16; 81
 {
     let columns = held(bytes);
     let mut next = before;
-    let mut k = 0;
-    while k < columns {
+    for k in 0..columns {
         next[9 * relation + 1 + k] = pair(bytes, at + 4 * k);
-        k += 1;
     }
     next
 }
 
 // The description with one relation more.
+#[tactic(auto, unfolding(crate::specs::Descriptions::with_relation))]
 fn with_relation(bytes: &[u8], description: Description, relation: usize) -> Description
     requires { relation ≤ 8 }
     ensures { result ≡ with_relation description relation bytes.now }
 {
-    let low = description.low;
-    let lows = ends(bytes, 12, relation, low);
-    let high = description.high;
-    let highs = ends(bytes, 14, relation, high);
     let mut next = description;
     next.relations = relation as u16;
     next.columns[relation] = pair(bytes, 4);
     next.rows[relation] = pair(bytes, 6);
     next.foreign[relation] = pair(bytes, 8);
     next.refers[relation] = pair(bytes, 10);
-    next.low = lows;
-    next.high = highs;
+    next.low = ends(bytes, 12, relation, description.low);
+    next.high = ends(bytes, 14, relation, description.high);
     next
 }
 
 // The description with this relation, or with too many.
+#[tactic(auto, unfolding(crate::specs::Descriptions::related, crate::specs::Descriptions::overfull))]
 pub fn relation(bytes: &[u8], description: Description) -> Description
     ensures { result ≡ related description bytes.now }
 {
     if description.relations < 8 {
-        let relation = description.relations as usize;
-        return with_relation(bytes, description, relation + 1);
+        with_relation(bytes, description, description.relations as usize + 1)
+    } else {
+        Description {
+            relations: 9,
+            ..description
+        }
     }
-    let mut next = description;
-    next.relations = 9;
-    next
 }

@@ -1,13 +1,10 @@
-// The kinds of statements, as a table.
-ghost use Rattle.std.specs.Prelude.{◌≡◌};
-ghost use Rattle.model.specs.Description.{between as between_of};
-ghost use Rattle.records.specs.Kinds.{is_kind, lists as lists_of, form_of};
+// The kinds of statements, as a table. They are numbers here as they are in the documents and in the records.
+ghost use Rattle.std.specs.Prelude.{◌≡◌, ◌≤◌};
+ghost use Rattle.records.specs.Kinds.{width, numbers, is_kind, lists as lists_of, form_of};
 
 // What an entry of a list is.
 #[derive(Clone, Copy)]
 pub enum Entry {
-    // there is no list
-    None,
     // a level
     Level,
     // a column and a FROM level
@@ -18,33 +15,52 @@ pub enum Entry {
     Condition,
 }
 
-// What a statement's record has behind its level and its relation: where its list begins, what an entry of it is, and what a condition is.
+impl Entry {
+    // How many bytes an entry has.
+    #[tactic(auto, unfolding(crate::specs::Kinds::width))]
+    pub(crate) fn width(self) -> usize
+        ensures { (result ≡ width self) × (result ≤ 10) }
+    {
+        match self {
+            Entry::Level => 2,
+            Entry::Borrow => 4,
+            Entry::Cell => 6,
+            Entry::Condition => 10,
+        }
+    }
+
+    // How many numbers an entry is.
+    #[tactic(auto, unfolding(crate::specs::Kinds::numbers))]
+    pub(crate) fn numbers(self) -> usize
+        ensures { (result ≡ numbers self) × (result ≤ 4) }
+    {
+        match self {
+            Entry::Level => 1,
+            Entry::Borrow | Entry::Cell => 2,
+            Entry::Condition => 4,
+        }
+    }
+}
+
+// What a statement's record has behind its level and its relation: where its list begins, if it has one, what an entry of it is, and what a condition
+// is, if it has conditions.
 #[derive(Clone, Copy)]
 pub struct Form {
     pub at: usize,
-    pub list: Entry,
-    pub conditions: Entry,
-}
-
-// Whether a number is in a range.
-pub(crate) fn between(low: u16, high: u16, n: u16) -> bool
-    ensures { result ≡ between_of low high n }
-{
-    if n < low {
-        return false;
-    }
-    n <= high
+    pub list: Option<Entry>,
+    pub conditions: Option<Entry>,
 }
 
 // Whether a kind is a statement's.
+#[tactic(auto, unfolding(crate::specs::Kinds::is_kind, model::specs::Description::between))]
 pub(crate) fn is_kind(kind: u16) -> bool
     ensures { result ≡ is_kind kind }
 {
-    between(16, 20, kind)
+    (16..=20).contains(&kind)
 }
 
 // A list from a place on, of such entries, and such conditions behind it.
-fn lists(at: usize, list: Entry, conditions: Entry) -> Form
+fn lists(at: usize, list: Option<Entry>, conditions: Option<Entry>) -> Form
     ensures { result ≡ lists_of at list conditions }
 {
     Form {
@@ -55,15 +71,16 @@ fn lists(at: usize, list: Entry, conditions: Entry) -> Form
 }
 
 // The form of each kind, a line a kind.
+#[tactic(auto, unfolding(crate::specs::Kinds::form_of))]
 pub(crate) fn form_of(kind: u16) -> Form
     ensures { result ≡ form_of kind }
 {
     match kind {
-        16 => lists(8, Entry::Cell, Entry::None),
-        17 => lists(8, Entry::None, Entry::Condition),
-        18 => lists(8, Entry::Cell, Entry::Condition),
-        19 => lists(14, Entry::Borrow, Entry::None),
-        20 => lists(8, Entry::Level, Entry::Condition),
-        _ => lists(8, Entry::None, Entry::None),
+        16 => lists(8, Some(Entry::Cell), None),
+        17 => lists(8, None, Some(Entry::Condition)),
+        18 => lists(8, Some(Entry::Cell), Some(Entry::Condition)),
+        19 => lists(14, Some(Entry::Borrow), None),
+        20 => lists(8, Some(Entry::Level), Some(Entry::Condition)),
+        _ => lists(8, None, None),
     }
 }

@@ -9,15 +9,10 @@ pub mod whole;
 
 use model::Statement;
 
-// What a record is read to.
+// What a statement's record is read to: the statement, and how many numbers its list and its conditions have.
 #[derive(Clone, Copy)]
-pub enum Read {
-    // the statement, and how many numbers its list and its conditions have
-    Statement {
-        statement: Statement,
-        listed: usize,
-        tested: usize,
-    },
-    // the number of the record, which is no statement or not of the length that it asks
-    Refused(u64),
+pub struct Read {
+    pub statement: Statement,
+    pub listed: usize,
+    pub tested: usize,
 }

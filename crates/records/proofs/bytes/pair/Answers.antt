@@ -1,11 +1,11 @@
-use mathlib.Core.Path.{sym}
+use native.Mathlib.Nat.{add-zero}
+use native.Mathlib.Omega.{arith}
+use lib.Seq.{get_or-drop}
 use Rattle.records.specs.Bytes.{pair}
-use Rattle.records.proofs.Behind.{pair-behind}
 use Rattle.records.proofs.bytes.pair.Goals as goal
 
-pub returns-then-bytes-at : goal.returns-then-bytes-at
-returns-then-bytes-at c = sym (pair-behind c.args.bytes.now c.args.at c.if-bytes-at.true)
+-- The two bytes from the place on.
 
 pub returns : goal.returns
 unfolding pair
-returns c = rw (c.byte.ensures.0, c.byte-2.ensures.0)
+returns c = rw (c.from_le_bytes.ensures, c.byte.ensures, c.byte-2.ensures, c.rest-rest.ensures) (simp (get_or-drop, add-zero) (omega arith))

@@ -1,15 +1,15 @@
-use mathlib.Core.Path.{sym, ◌∙◌}
+use Prim.Native.Nat.{◌+◌}
+use mathlib.Core.Path.{◌≡◌}
+use native.Mathlib.Nat.{add-zero}
 use native.Mathlib.Omega.{arith}
-use Rattle.records.specs.Bytes.{quad}
-use Rattle.records.proofs.Behind.{quad-short}
+use lib.Seq.{get_or-drop}
+use Rattle.records.specs.Bytes.{pair, quad}
 use Rattle.records.proofs.bytes.quad.Goals as goal
 
-pub returns-then-bytes-at : goal.returns-then-bytes-at
-returns-then-bytes-at c = let s = c.args in c.field-low.ensures.0 ∙ sym (quad-short s.bytes.now s.at (omega arith))
-
-pub returns-then-bytes-at-le2 : goal.returns-then-bytes-at-le2
-returns-then-bytes-at-le2 c = let s = c.args in c.field-low.ensures.0 ∙ sym (quad-short s.bytes.now s.at (omega arith))
+-- The four bytes from the place on.
 
 pub returns : goal.returns
-unfolding quad
-returns c = rw (c.field-low.ensures.0, c.field.ensures.0)
+unfolding pair quad
+returns c = let e : c.args.at + 2 + 1 ≡ c.args.at + 3 = omega arith in
+    rw (c.from_le_bytes.ensures, c.byte.ensures, c.byte-2.ensures, c.byte-3.ensures, c.byte-4.ensures, c.rest-rest.ensures)
+    (simp (get_or-drop, add-zero, e) (omega arith))

@@ -1,16 +1,8 @@
-use Prim.Native.Nat.{◌+◌, ◌*◌, ◌≤◌, ◌-◌}
+use Prim.Native.Nat.{◌+◌, ◌*◌}
 use mathlib.Core.Path.{◌≡◌}
-use lib.ListN.{length}
 use Rattle.bounded.specs.Lists.{list_below, write_at}
 use Rattle.records.specs.Bytes.{pair}
 use Rattle.records.proofs.descriptions.ends.Given as goal
 
 abbrev pub invariant-loop-k : goal.invariant-loop-k
-invariant-loop-k l =
-    (l.k ≤ l.columns)
-    × (length l.initial.next ≡ 81)
-    × (l.next ≡ write_at (9 * l.relation + 1) (list_below l.k (λ j. pair l.bytes (l.at + 4 * j))) l.initial.next)
-
-abbrev pub decreases-loop-k : goal.decreases-loop-k
-decreases-loop-k l =
-    l.columns - l.k
+invariant-loop-k l = l.next ≡ write_at (9 * l.relation + 1) (list_below l.k (λ j. pair l.bytes (l.at + 4 * j))) l.fn.before

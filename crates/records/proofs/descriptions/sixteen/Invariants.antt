@@ -1,14 +1,7 @@
-use Prim.Native.Nat.{◌≤◌, ◌-◌}
 use mathlib.Core.Path.{◌≡◌}
-use lib.ListN.{length}
 use Rattle.bounded.specs.Lists.{list_below, write_at}
 use Rattle.records.specs.Descriptions.{label_at}
 use Rattle.records.proofs.descriptions.sixteen.Given as goal
 
 abbrev pub invariant-loop-level : goal.invariant-loop-level
-invariant-loop-level l =
-    (l.level ≤ 16) × (length l.initial.labels ≡ 16) × (l.labels ≡ write_at 0 (list_below l.level (λ k. label_at l.bytes k)) l.initial.labels)
-
-abbrev pub decreases-loop-level : goal.decreases-loop-level
-decreases-loop-level l =
-    16 - l.level
+invariant-loop-level l = l.labels ≡ write_at 0 (list_below l.level (λ k. label_at l.bytes k)) l.initial.labels

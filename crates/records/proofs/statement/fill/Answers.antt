@@ -1,54 +1,51 @@
-use Prim.Native.Nat.{◌≤◌}
-use mathlib.Core.Path.{refl}
+use Prim.Native.Nat.{◌+◌}
+use mathlib.Core.Path.{◌≡◌, refl, ◌∙◌}
 use native.Mathlib.Omega.{arith}
-use Rattle.bounded.proofs.Lists.{write-none}
-use Rattle.records.specs.declared.kinds.Entry.TheVariants as Entries
-use Rattle.records.specs.Statements.{end_of, numbers_of}
-use Rattle.records.proofs.Extents.{end-behind, room_as}
-use Rattle.records.proofs.Written.{filled, cells-length, fields-length, tests-length}
+use lib.ListN.{length-take, length-drop}
+use Rattle.std.specs.Prelude.{Some}
+use Rattle.bounded.proofs.Lists.{write-none, pieces-start, pieces_end}
+use Rattle.records.specs.Bytes.{pair}
+use Rattle.records.specs.Statements.{numbers_of}
+use Rattle.records.proofs.Extents.{end-behind, entry-within}
+use Rattle.records.proofs.Written.{filled, entries-length, entry-more, numbers-each}
 use Rattle.records.proofs.statement.fill.Goals as goal
 
--- By what an entry is: a list that ends in the record has at most 512 numbers.
+-- The invariant: the entries passed are written. A list that ends in the record has at most 512 numbers.
 
-pub overflow_add-from : goal.overflow_add-from
-overflow_add-from c = omega (arith, c.requires.1.0, end-behind c.args.bytes.now c.args.entry c.args.at)
-
-pub fields-requires : goal.fields-requires
-unfolding end_of
-fields-requires c = let h : end_of c.args.bytes.now Entries.Level c.args.at ≤ 1028 = room_as _ _ c.in-Level.is c.requires.1.0 in
-    (omega arith, (omega (arith, c.count-n.ensures.0), c.requires.1.1))
-
-pub fields-requires-in-Borrow : goal.fields-requires-in-Borrow
-unfolding end_of
-fields-requires-in-Borrow c = let h : end_of c.args.bytes.now Entries.Borrow c.args.at ≤ 1028 = room_as _ _ c.in-Borrow.is c.requires.1.0 in
-    (omega arith, (omega (arith, c.count-n.ensures.0), c.requires.1.1))
-
-pub cells-requires : goal.cells-requires
-unfolding end_of
-cells-requires c = let h : end_of c.args.bytes.now Entries.Cell c.args.at ≤ 1028 = room_as _ _ c.in-Cell.is c.requires.1.0 in
-    (omega arith, (omega (arith, c.count-n.ensures.0), c.requires.1.1))
-
-pub tests-requires : goal.tests-requires
-unfolding end_of
-tests-requires c = let h : end_of c.args.bytes.now Entries.Condition c.args.at ≤ 1028 = room_as _ _ c.in-Condition.is c.requires.1.0 in
-    (omega arith, (omega (arith, c.count-n.ensures.0), c.requires.1.1))
-
-pub returns-in-None : goal.returns-in-None
+pub returns-in_default : goal.returns-in_default
 unfolding numbers_of
-returns-in-None c = filled (rw c.in-None.is) refl (write-none 0 _)
+returns-in_default c = filled (rw c.in_default.is) refl (write-none 0 _)
 
-pub returns-in-Level : goal.returns-in-Level
-unfolding numbers_of
-returns-in-Level c = filled (rw (c.in-Level.is, c.count-n.ensures.0)) (fields-length _ _ _) c.fields.ensures
+pub loop-i-init : goal.loop-i-init
+loop-i-init c = pieces-start _ _
 
-pub returns-in-Borrow : goal.returns-in-Borrow
-unfolding numbers_of
-returns-in-Borrow c = filled (rw (c.in-Borrow.is, c.count-n.ensures.0)) (fields-length _ _ _) c.fields-in-Borrow.ensures
+pub slice_bounds-put-count : goal.slice_bounds-put-count
+slice_bounds-put-count c = let w = entry-within c.args.bytes.now c.in-Some.entry c.args.at c.loop-i.i (omega (arith, c.count-n.ensures.0)) c.requires.0 (rw c.in-Some.is at c.requires.1.0) in
+    rw c.numbers-numbers.ensures.0 (omega (arith, w.room))
 
-pub returns-in-Cell : goal.returns-in-Cell
-unfolding numbers_of
-returns-in-Cell c = filled (rw (c.in-Cell.is, c.count-n.ensures.0)) (cells-length _ _ _) c.cells.ensures
+pub slice_bounds-put-start : goal.slice_bounds-put-start
+slice_bounds-put-start c = let w = entry-within c.args.bytes.now c.in-Some.entry c.args.at c.loop-i.i (omega (arith, c.count-n.ensures.0)) c.requires.0 (rw c.in-Some.is at c.requires.1.0) in
+    rw c.numbers-numbers.ensures.0 (omega (arith, w.room))
 
-pub returns-in-Condition : goal.returns-in-Condition
-unfolding numbers_of
-returns-in-Condition c = filled (rw (c.in-Condition.is, c.count-n.ensures.0)) (tests-length _ _ _) c.tests.ensures
+pub overflow_add-at : goal.overflow_add-at
+overflow_add-at c = omega (arith, c.requires.1.0, end-behind c.args.bytes.now c.args.entry c.args.at)
+
+pub overflow_add-at-in-loop-i : goal.overflow_add-at-in-loop-i
+overflow_add-at-in-loop-i c = let w = entry-within c.args.bytes.now c.in-Some.entry c.args.at c.loop-i.i (omega (arith, c.count-n.ensures.0)) c.requires.0 (rw c.in-Some.is at c.requires.1.0) in
+    rw c.width-width.ensures.0 (omega (arith, w.begins))
+
+pub put-requires : goal.put-requires
+put-requires c = let w = entry-within c.args.bytes.now c.in-Some.entry c.args.at c.loop-i.i (omega (arith, c.count-n.ensures.0)) c.requires.0 (rw c.in-Some.is at c.requires.1.0) in
+    rw (c.numbers-numbers.ensures.0, c.width-width.ensures.0) (omega (arith, w.begins), simp (length-take, length-drop) (omega (arith, w.room)))
+
+pub loop-i-preserved : goal.loop-i-preserved
+loop-i-preserved c = let w = entry-within c.args.bytes.now c.in-Some.entry c.args.at c.loop-i.i (omega (arith, c.count-n.ensures.0)) c.requires.0 (rw c.in-Some.is at c.requires.1.0) in
+    let l = c.loop-i in
+    entry-more c.args.bytes.now c.in-Some.entry (c.args.at + 2) l.i _ _ c.numbers-numbers.ensures.0 c.width-width.ensures.0 l.auto.list (omega (arith, w.room)) l.invariant c.put.ensures
+
+pub returns : goal.returns
+returns c = let l = c.loop-i in
+    let h : numbers_of c.args.bytes.now c.args.entry c.args.at ≡ numbers_of c.args.bytes.now (Some c.in-Some.entry) c.args.at = rw c.in-Some.is in
+    filled (h ∙ numbers-each c.args.bytes.now c.in-Some.entry c.args.at)
+    (entries-length c.args.bytes.now c.in-Some.entry (c.args.at + 2) (pair c.args.bytes.now c.args.at) ∙ rw (c.numbers-numbers.ensures.0, c.count-n.ensures.0))
+    (rw (← c.count-n.ensures.0) (pieces_end _ _ _ _ l.invariant l.auto.i-end c.loop-i-test.false))

@@ -1,6 +1,5 @@
 use Prim.Native.Nat.{◌≤◌}
 use native.Mathlib.Omega.{arith}
-use Rattle.records.specs.Statements.{list_end, length_asked}
 use Rattle.records.proofs.Extents.{form-early}
 use Rattle.records.proofs.statement.length_asked.Goals as goal
 
@@ -12,7 +11,3 @@ list_end-end-requires c = rw c.form_of-form.ensures (omega (arith, (form-early c
 pub list_end-requires : goal.list_end-requires
 list_end-requires c = let h : c.form_of-form.result.at ≤ 14 = rw c.form_of-form.ensures (form-early _).high in
     omega (arith, c.list_end-end.ensures.1)
-
-pub returns : goal.returns
-unfolding length_asked list_end
-returns c = rw (c.list_end.ensures.0, c.list_end-end.ensures.0, c.form_of-form.ensures, c.pair.ensures)
