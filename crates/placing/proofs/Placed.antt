@@ -1,6 +1,7 @@
 -- A record of kind 3: its tests in their order, and the buffers that it leaves.
 -- Assumes nothing.
 use Prim.Native.Nat.{ℕ, ◌+◌, ◌*◌, ◌≤◌, ◌<◌}
+use Rattle.std.specs.Prelude.{Some, None}
 use mathlib.Core.Path.{◌≡◌, refl, sym, ap, ap₂, ◌∙◌}
 use mathlib.Core.Bool.{Bool, true, false, ◌&&◌}
 use mathlib.Core.List.{List}
@@ -16,8 +17,10 @@ use Rattle.model.specs.Tables.{cell, State}
 use Rattle.model.specs.Buffers.{Buffers, holding, fitting, state_of, buffers_of}
 use Rattle.model.specs.Effect.{lowest_empty, has_room}
 use Rattle.model.proofs.Border.{buffers-state}
-use Rattle.cells.specs.declared.layout.Part.{Part}
-use Rattle.cells.specs.Layout.{Laid, Lent, InLevel}
+use Rattle.bounded.specs.Bounded.{some_below}
+use Rattle.bounded.proofs.Found.{some-below, none-below}
+use Rattle.cells.specs.Laid.{Laid}
+use Rattle.cells.specs.Layout.{Lent, InLevel}
 use Rattle.cells.specs.Changed.{listed_row, with_row, change_level}
 use Rattle.cells.proofs.Written.{row_as}
 use Rattle.change.specs.Facts.{Filled}
@@ -82,34 +85,34 @@ module _ (d : Description) (bytes vs cs : List ℕ) {r l : ℕ} (x : r ≡ relat
           pub described : (sound d ≡ true) × (is_relation d r ≡ true)
           described = (sound-is, relation-is)
 
-          module _ {p : Part} (L : Laid d r p) where
-            -- what is told of the buffers and the level
-            pub standing : Lent d r p (length vs) (length cs) × InLevel d r l
-            standing = (record { laid = L; values = sizes.0; classes = sizes.1 }, in-level d sound-is r relation-is l level-is)
+          -- what is told of the buffers and the level
+          pub standing : Lent d (length vs) (length cs) × InLevel d r l
+          standing = (record { values = sizes.0; classes = sizes.1 }, in-level d sound-is r relation-is l level-is)
 
-            asked-shape : placeable d b bytes ≡ ((eqb (length bytes) (8 + 6 * p.columns) && small_classes p.columns bytes) && room)
+          module _ {start rows columns : ℕ} (L : Laid d r start rows columns) where
+            asked-shape : placeable d b bytes ≡ ((eqb (length bytes) (8 + 6 * columns) && small_classes columns bytes) && room)
             asked-shape = asked ∙ rw (← e, t, ← h, u, L.columns)
 
-            pub place-miscounted : length bytes ≢ 8 + 6 * p.columns → Places d bytes b b false
-            place-miscounted n = refused (asked-shape ∙ rw (ne_eqb (length bytes) (8 + 6 * p.columns) n))
+            pub place-miscounted : length bytes ≢ 8 + 6 * columns → Places d bytes b b false
+            place-miscounted n = refused (asked-shape ∙ rw (ne_eqb (length bytes) (8 + 6 * columns) n))
 
-            module _ (n : length bytes ≡ 8 + 6 * p.columns) {s : Bool} (k : s ≡ small_classes p.columns bytes) where
+            module _ (n : length bytes ≡ 8 + 6 * columns) {s : Bool} (k : s ≡ small_classes columns bytes) where
               asked-room : placeable d b bytes ≡ (s && room)
-              asked-room = asked-shape ∙ rw (eq-eqb (length bytes) (8 + 6 * p.columns) n, k)
+              asked-room = asked-shape ∙ rw (eq-eqb (length bytes) (8 + 6 * columns) n, k)
 
               pub place-large : s ≡ false → Places d bytes b b false
               place-large v = refused (asked-room ∙ rw v)
 
-              module _ (v : s ≡ true) {row : ℕ} (q : row ≡ lowest_empty d (S l).rows r) where
-                asked-row : placeable d b bytes ≡ ltb row p.rows
-                asked-row = asked-room ∙ rw (v, q, L.rows)
+              module _ (v : s ≡ true) where
+                asked-row : placeable d b bytes ≡ room
+                asked-row = asked-room ∙ rw v
 
-                pub place-full : p.rows ≤ row → Places d bytes b b false
-                place-full m = refused (asked-row ∙ le-ltb row p.rows m)
+                pub place-full : None ≡ some_below (row_count d r) (lowest_empty d (S l).rows r) → Places d bytes b b false
+                place-full q = refused (asked-row ∙ le-ltb (lowest_empty d (S l).rows r) (row_count d r) (none-below _ _ q))
 
                 -- the row is stored
-                module _ {news owners : List ℕ} (F : Filled p.columns (λ k. (row_read bytes k).value) news)
-                    (G : Filled p.columns (λ k. (row_read bytes k).class) owners) where
+                module _ {row : ℕ} (q : Some row ≡ some_below (row_count d r) (lowest_empty d (S l).rows r)) {news owners : List ℕ}
+                    (F : Filled columns (λ k. (row_read bytes k).value) news) (G : Filled columns (λ k. (row_read bytes k).class) owners) where
                   row_is : (k : ℕ) → 0 < k → k ≤ column_count d r → listed_row news owners k ≡ row_read bytes k
                   unfolding listed_row row_read
                   row_is k z m = ap₂ cell (F.right k z (rw L.columns m)) (G.right k z (rw L.columns m))
@@ -117,15 +120,14 @@ module _ (d : Description) (bytes vs cs : List ℕ) {r l : ℕ} (x : r ≡ relat
                   tables-are : change_level l (with_row (column_count d r) r row (listed_row news owners)) S ≡ with_placed d S bytes
                   unfolding with_placed
                   tables-are =
-                      rw (← x, ← y, ← q)
+                      rw (← x, ← y, ← (some-below _ _ q).0)
                       (row_as l (column_count d r) r row (listed_row news owners) (row_read bytes) S row_is)
 
-                  pub place-done : row < p.rows → {us ds : List ℕ}
-                      → state_of d (holding us ds) ≡ change_level l (with_row (column_count d r) r row (listed_row news owners)) S
+                  pub place-done : {us ds : List ℕ} → state_of d (holding us ds) ≡ change_level l (with_row (column_count d r) r row (listed_row news owners)) S
                       → length us ≡ length vs → length ds ≡ length cs → Places d bytes b (holding us ds) true
                   unfolding placed fitting
-                  place-done m {us} {ds} w i j =
-                      let yes : placeable d b bytes ≡ true = asked-row ∙ lt-ltb row p.rows m in
+                  place-done {us} {ds} w i j =
+                      let yes : placeable d b bytes ≡ true = asked-row ∙ lt-ltb (lowest_empty d (S l).rows r) (row_count d r) (some-below _ _ q).1 in
                       let fit : fitting d (holding us ds) ≡ true =
                       is_true (and_r (eqb-r (length us) (total_of d)) (eqb-r (length ds) (total_of d))) (i ∙ sizes.0, j ∙ sizes.1) in
                       record { done-is = sym yes; left_is = rw yes (sym (buffers-state d (holding us ds) fit) ∙ ap (buffers_of d) (w ∙ tables-are)) }
