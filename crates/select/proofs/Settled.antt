@@ -9,7 +9,7 @@ use mathlib.Core.Option.{Option, none, some}
 use native.Mathlib.Omega.{arith}
 use Rattle.level.proofs.Settled.{Settled}
 use Rattle.model.specs.declared.Fault.{Fault}
-use Rattle.std.specs.Prelude.{Ok, Err}
+use Rattle.std.specs.Prelude.{Err}
 use Rattle.model.specs.Answers.{Answer}
 use Rattle.model.specs.Select.{Shown}
 use Rattle.change.specs.Facts.{Showed, refuses, shows}

@@ -1,6 +1,5 @@
 -- What the functions that write rows promise: shown and owners before, shown' and owners' after, the tables in values and classes.
 -- Assumes nothing: these are statements.
-use Rattle.std.specs.Prelude.{Ok, Err}
 use Rattle.model.specs.Answers.{Answer}
 use Rattle.std.specs.Prelude.{ℕ, Bool, List}
 use Rattle.model.specs.declared.Description.{Description}

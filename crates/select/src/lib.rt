@@ -13,9 +13,9 @@ ghost use Rattle.change.specs.Facts.{Standing, Selects};
 ghost use Rattle.select.specs.Facts.{Holds, InLevels, Room, held, start, levels_at, shown_levels, found_in, values_of, owners_of, row_shown, wanted as wanted_of};
 ghost use Rattle.select.specs.Written.{WroteRow, WroteLevel, WroteLevels, FilledLevels};
 
-use asked::levels::{exist, lists, once, seen};
+use asked::levels::{exist, lists, once};
+use asked::table::Table;
 use cells::layout::Part;
-use cells::read::{class_at, value_at};
 use conditions::{chosen, count};
 use level::Label;
 use model::{Answer, Description, Fault};
@@ -143,10 +143,11 @@ fn own(classes: &[u8], owners: &mut [u8], part: Part, level: usize, row: usize, 
     requires level_bound { (level < 16) × (at.owners + column_count part.description part.relation < length owners.old) }
     ensures { owners.new ≡ write_at at.owners (owners_of part.description classes.now part.relation level row) owners.old }
 {
-    for column in 0..part.columns {
+    let last = part.columns;
+    for column in 0..last {
         owners[at.owners + column] = part.class_at(classes, level, row, column + 1);
     }
-    owners[at.owners + part.columns] = level as u8;
+    owners[at.owners + last] = level as u8;
 }
 
 // A row; where the next goes.

@@ -1,11 +1,11 @@
-use borrow.Author.Tests.{eq-eqb, ne_eqb}
+use mathlib.Core.Path.{sym, ◌∙◌}
 use Rattle.model.specs.Select.{asked}
 use Rattle.select.proofs.asked.Goals as goal
 
-pub returns-then-list-eq0 : goal.returns-then-list-eq0
+pub returns-then-is_empty : goal.returns-then-is_empty
 unfolding asked
-returns-then-list-eq0 c = rw (eq-eqb _ _ c.if-list-eq0.true)
+returns-then-is_empty c = rw (sym c.is_empty.ensures ∙ c.if-is_empty.true)
 
 pub returns : goal.returns
 unfolding asked
-returns c = rw (ne_eqb _ _ c.if-list-eq0.false, c.lists.ensures)
+returns c = rw (sym c.is_empty.ensures ∙ c.if-is_empty.false) c.lists.ensures

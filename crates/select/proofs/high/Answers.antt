@@ -1,7 +1,6 @@
 use Prim.Native.Nat.{◌+◌}
 use mathlib.Core.Path.{sym, subst}
 use mathlib.Core.List.{◌++◌}
-use native.Mathlib.Omega.{arith}
 use Rattle.bounded.specs.Lists.{concat_below}
 use Rattle.select.specs.declared.InOrder.{InOrder}
 use Rattle.select.specs.Facts.{level_at, levels_at, held, Holds}
@@ -25,11 +24,11 @@ loop-level-preserved c = let l = c.loop-level in
     let g = level_at c.args.d c.args.subject c.args.list.now c.args.height in
     elim c.if-wanted.branch [
       | then-wanted w ↦ subst (λ (v : InOrder). Holds (held c.args.before ++ concat_below (l.level + 1) g) v) (sym w.found-is)
-            (holds-next l.level g (held c.args.before) l.invariant (level-yes _ _ _ _ _ c.wanted.ensures w.if-wanted.true) w.add-found.ensures)
+          (holds-next l.level g (held c.args.before) l.invariant (level-yes _ _ _ _ _ c.wanted.ensures w.if-wanted.true) w.add-found.ensures)
       | else-wanted w ↦ subst (λ (v : InOrder). Holds (held c.args.before ++ concat_below (l.level + 1) g) v) (sym w.found-is)
-            (holds_same l.level g (held c.args.before) l.invariant (level-no _ _ _ _ _ c.wanted.ensures w.if-wanted.false))
+          (holds_same l.level g (held c.args.before) l.invariant (level-no _ _ _ _ _ c.wanted.ensures w.if-wanted.false))
     ]
 
 pub returns : goal.returns
 unfolding levels_at
-returns c = holds-end _ _ (level_at c.args.d c.args.subject c.args.list.now c.args.height) (held c.args.before) c.loop-level.invariant c.loop-level.invariant.0 c.loop-level-test.false
+returns c = holds-end _ _ (level_at c.args.d c.args.subject c.args.list.now c.args.height) (held c.args.before) c.loop-level.invariant c.loop-level.auto.level-end c.loop-level-test.false

@@ -1,4 +1,3 @@
-use Prim.Native.Nat.{◌≤◌, ◌-◌}
 use mathlib.Core.List.{◌++◌}
 use Rattle.bounded.specs.Lists.{concat_below}
 use Rattle.select.specs.Facts.{level_at, held, Holds}

@@ -1,4 +1,3 @@
-use Prim.Native.Nat.{◌≤◌, ◌-◌}
 use Rattle.bounded.specs.Lists.{concat_below}
 use Rattle.select.specs.Facts.{levels_at, Holds}
 use Rattle.select.proofs.lay.Given as goal

@@ -1,7 +1,6 @@
-use mathlib.Core.Path.{refl, ◌∙◌}
+use mathlib.Core.Path.{◌∙◌}
 use native.Mathlib.Numerals.{add-one}
 use native.Mathlib.Omega.{arith}
-use lib.ListN.{length-set}
 use Rattle.bounded.proofs.Lists.{numbers-start, numbers_more}
 use Rattle.model.proofs.Border.{inside-shown}
 use Rattle.select.proofs.Shown.{owners-end}

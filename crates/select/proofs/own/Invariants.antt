@@ -1,6 +1,5 @@
-use Prim.Native.Nat.{suc, ◌≤◌, ◌-◌}
+use Prim.Native.Nat.{suc}
 use mathlib.Core.Path.{◌≡◌}
-use lib.ListN.{length}
 use Rattle.bounded.specs.Lists.{list_below, write_at}
 use Rattle.cells.specs.Changed.{class_at}
 use Rattle.select.proofs.own.Given as goal

@@ -11,7 +11,7 @@ pub loop-i-init : goal.loop-i-init
 loop-i-init c = (omega arith, concat-start _)
 
 pub chosen-chosen-requires : goal.chosen-chosen-requires
-chosen-chosen-requires c = record { lent = (c.requires.lent.0, record { relation = c.requires.lent.1.relation; level = c.requires.lent.1.level _ c.loop-i-test.true; keyed = c.requires.lent.1.keyed }); asking = c.requires.asking }
+chosen-chosen-requires c = record { lent = c.requires.lent.0; in_level = record { relation = c.requires.lent.1.relation; level = c.requires.lent.1.level _ c.loop-i-test.true; keyed = c.requires.lent.1.keyed }; asking = c.requires.asking }
 
 pub loop-i-preserved : goal.loop-i-preserved
 loop-i-preserved c = let l = c.loop-i in (

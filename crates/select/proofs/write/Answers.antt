@@ -1,5 +1,3 @@
-use mathlib.Core.Path.{refl, ◌∙◌}
-use native.Mathlib.Omega.{arith}
 use Rattle.select.proofs.Shown.{wrote-start}
 use Rattle.select.proofs.Found.{level-room, level-next, level-end}
 use Rattle.select.proofs.write.Goals as goal

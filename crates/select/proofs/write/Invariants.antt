@@ -1,6 +1,3 @@
-use Prim.Native.Nat.{◌≤◌, ◌-◌}
-use mathlib.Core.Path.{◌≡◌}
-use lib.ListN.{length}
 use Rattle.bounded.specs.Lists.{concat_below}
 use Rattle.model.specs.Buffers.{holding, state_of}
 use Rattle.select.specs.Facts.{level_found, start, Wrote}
