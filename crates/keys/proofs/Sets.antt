@@ -15,7 +15,8 @@ use lib.ListN.{length, get_or, set, length-set}
 use lib.Seq.{ext_get_or, get_or-set_same, get_or-set_other}
 use borrow.Author.Count.{below_more}
 use borrow.Author.Tests.{eq-eqb, ne_eqb, eqb-true, eqb-false, lt-ltb, le-ltb, ltb-true, ltb-false}
-use Rattle.bounded.proofs.Cases.{cases, and-false-right}
+use Rattle.std.proofs.lemmas.List.{get_or_past}
+use Rattle.bounded.proofs.Cases.{cases}
 use Rattle.level.specs.Order.{order_of}
 use Rattle.level.proofs.Levels.{order-laws}
 use Rattle.model.specs.declared.Description.{Description}
@@ -191,12 +192,19 @@ module _ (d : Description) (order : List (List Bool)) (s : sound d ≡ true) (e 
 
 -- ---- ranges
 
-module _ (d : Description) (low high : ℕ) (s : sound d ≡ true) where
-  pub range-low : 16 ≤ low → Within d low high 0
-  range-low h = record { right = λ c. bit-zero c ∙ sym (and-false-right (over d high c) (over d c low) (over-low d s c low h)) }
+-- where no level is, the words say nothing
+module _ (d : Description) (s : sound d ≡ true) (bs us : List ℕ) (G : Orders d bs us) where
+  below-all : (a b : ℕ) → has_bit (get_or bs a 0) b ≡ over d a b
+  below-all a b =
+      cases (ltb a 16)
+      (λ t. G.below a b (ltb-true a 16 t))
+      (λ t. let h = ltb-false a 16 t in rw (get_or_past bs a 0 (omega (arith, G.long)), bit-zero b) (sym (over-high d s a b h)))
 
-  pub range-high : 16 ≤ high → Within d low high 0
-  range-high h = record { right = λ c. bit-zero c ∙ rw (over-high d s high c h) }
+  above-all : (a b : ℕ) → has_bit (get_or us b 0) a ≡ over d a b
+  above-all a b =
+      cases (ltb b 16)
+      (λ t. G.above a b (ltb-true b 16 t))
+      (λ t. let h = ltb-false b 16 t in rw (get_or_past us b 0 (omega (arith, G.wide)), bit-zero a) (sym (over-low d s a b h)))
 
-  pub range-of : (bs us : List ℕ) → Orders d bs us → low < 16 → high < 16 → Within d low high (bit_and (get_or bs high 0) (get_or us low 0))
-  range-of bs us G h k = record { right = λ c. bit-and (get_or bs high 0) (get_or us low 0) c ∙ rw (G.below high c k, G.above c low h) }
+  pub range-of : (low high : ℕ) → Within d low high (bit_and (get_or bs high 0) (get_or us low 0))
+  range-of low high = record { right = λ c. bit-and (get_or bs high 0) (get_or us low 0) c ∙ rw (below-all high c, above-all c low) }
