@@ -11,7 +11,7 @@ use lib.Arith.{bin_ind}
 use lib.Pow.{pow_mono, pow_pos, shr-shr, shl_exact}
 use lib.Dec.{eqb, ltb}
 use lib.Bits.{bit_and, bit_or, and_step, and_shr, or_step, or_shr}
-use lib.ListN.{length, get_or, set, length-set}
+use lib.ListN.{length, get_or, set}
 use lib.Seq.{ext_get_or, get_or-set_same, get_or-set_other}
 use borrow.Author.Count.{below_more}
 use borrow.Author.Tests.{eq-eqb, ne_eqb, eqb-true, eqb-false, lt-ltb, le-ltb, ltb-true, ltb-false}
@@ -80,9 +80,6 @@ with-on w b on t =
     same_bit : (c : ℕ) → c ≡ b → bit (bit_or w (2 ^ b)) c ≡ 1
     same_bit c e = rw e (omega (arith, bit-or w (2 ^ b) b, bit-pow-same b))
 
-pub with-off : (w b : ℕ) (on : Bool) → on ≡ false → With w b on w
-with-off w b on t = record { right = λ c. cases (eqb c b) (λ e. rw (e, t)) (λ e. rw e) }
-
 -- ---- the levels of which a test is true
 
 bit-zero : (c : ℕ) → has_bit 0 c ≡ false
@@ -124,20 +121,6 @@ each_more P i l v h p q =
     below_more _ i
     (λ k lt. subst (P k) (sym (get_or-set_other l i k v 0 (omega arith))) (q k lt))
     (subst (P i) (sym (get_or-set_same l i v 0 h)) p)
-
-pub words_more : (order : List (List Bool)) (turned : Bool) (a w : ℕ) (ws : List ℕ) → a < 16 → Word (pair_of order turned a) 16 w → Words order turned a ws → Words order turned (a + 1) (set ws a w)
-words_more order turned a w ws h W G =
-    record {
-      long = length-set ws a w ∙ G.long;
-      right = each_more (λ k x. Word (pair_of order turned k) 16 x) a ws w (omega (arith, G.long)) W G.right;
-    }
-
-pub ranges_more : (d : Description) (p w : ℕ) (ws : List ℕ) → p < 81 → Within d (get_or d.low p 0) (get_or d.high p 0) w → Ranges d p ws → Ranges d (p + 1) (set ws p w)
-ranges_more d p w ws h W G =
-    record {
-      long = length-set ws p w ∙ G.long;
-      right = each_more (λ k x. Within d (get_or d.low k 0) (get_or d.high k 0) x) p ws w (omega (arith, G.long)) W G.right;
-    }
 
 -- ---- at most one
 
