@@ -21,10 +21,15 @@ relations-requires c = record { sound_description = (c.requires.sound_descriptio
 pub returns-then-not-relations : goal.returns-then-not-relations
 returns-then-not-relations c = tables-twice _ _ _ _ c.requires.sound_description.0 c.fill.ensures c.relations.ensures.0 c.if-not-relations.true ∙ tables-legal _ _ _
 
-pub tables-requires : goal.tables-requires
-tables-requires c = let K = c.relations.ensures in
+pub invariant_of-tables : goal.invariant_of-tables
+invariant_of-tables c = let K = c.relations.ensures in
     let F = keyed-kept _ c.requires.sound_description.0 _ _ K.1 _ c.fill.ensures in
-    let D = distinct-kept _ c.requires.sound_description.0 _ _ K.1 ∙ sym K.0 ∙ c.if-not-relations.false in record { laid = laid_of _ _ _ _ _ c.requires.sound_description.0 c.starts-starts.ensures F c.requires.values_len.0 c.requires.values_len.1 D; ranges = (c.ranges-ranges.ensures, orders-of _ _ c.requires.sound_description.0 c.requires.sound_description.1 _ _ c.words-below.ensures c.words-above.ensures) }
+    let D = distinct-kept _ c.requires.sound_description.0 _ _ K.1 ∙ sym K.0 ∙ c.if-not-relations.false in
+    record {
+      laid = laid_of _ _ _ _ _ c.requires.sound_description.0 c.starts-starts.ensures F c.requires.values_len.0 c.requires.values_len.1 D;
+      ranged = c.ranges-ranges.ensures;
+      ordered = orders-of _ _ c.requires.sound_description.0 c.requires.sound_description.1 _ _ c.words-below.ensures c.words-above.ensures;
+    }
 
 pub returns : goal.returns
 returns c = c.tables.ensures ∙ tables-legal _ _ _
