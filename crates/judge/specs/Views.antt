@@ -1,6 +1,6 @@
 -- What contracts say of the judge's structs.
 -- Assumes nothing: these are definitions.
-use Rattle.std.specs.Prelude.{◌≡◌, Bool, Option, List, ℕ}
+use Rattle.std.specs.Prelude.{Bool, Option, List, ℕ}
 use Rattle.model.specs.declared.Description.{Description}
 use Rattle.model.specs.Tables as model
 use Rattle.model.specs.Buffers.{rows_in}

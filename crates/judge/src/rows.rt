@@ -28,7 +28,12 @@ fn row(relation: &Relation, level: usize, i: usize) -> bool
     ensures { result ≡ row_right (description_of relation.now) (rows_of relation.now) relation.now.area.relation level i }
 {
     let start = at(relation.area, level, i);
-    let row = Row { relation, level, i, start };
+    let row = Row {
+        relation,
+        level,
+        i,
+        start,
+    };
     let key = relation.tables.values[start];
     if key == 0 {
         return empty(&row);
@@ -71,7 +76,11 @@ fn relation(tables: &Tables, r: usize) -> bool
     let refers = usize::from(description.refers[r + 1]);
     let area = laid(description, tables.starts, r + 1);
     let target = laid(description, tables.starts, refers);
-    levels(&Relation { tables, area, target })
+    levels(&Relation {
+        tables,
+        area,
+        target,
+    })
 }
 
 // Every row of every relation.

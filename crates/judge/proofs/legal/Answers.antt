@@ -1,6 +1,4 @@
-use Prim.Native.Nat.{ℕ}
 use mathlib.Core.Path.{sym, ◌∙◌}
-use lib.ListN.{length-replicate}
 use Rattle.keys.proofs.Sets.{orders-of}
 use Rattle.keys.proofs.Notes.{keyed-kept, distinct-kept}
 use Rattle.judge.proofs.Passes.{laid_of, tables-twice, tables-legal}
@@ -8,15 +6,6 @@ use Rattle.judge.proofs.legal.Goals as goal
 
 pub ranges-ranges-requires : goal.ranges-ranges-requires
 ranges-ranges-requires c = (c.requires.sound_description.0, orders-of _ _ c.requires.sound_description.0 c.requires.sound_description.1 _ _ c.words-below.ensures c.words-above.ensures)
-
-pub starts-starts-requires : goal.starts-starts-requires
-starts-starts-requires c = c.requires.sound_description.0
-
-pub fill-requires : goal.fill-requires
-fill-requires c = record { sound_description = (c.requires.sound_description.0, c.starts-starts.ensures); values_len = (c.requires.values_len.0, length-replicate {A = ℕ} 16384 0) }
-
-pub relations-requires : goal.relations-requires
-relations-requires c = record { sound_description = (c.requires.sound_description.0, c.starts-starts.ensures); keys_len = c.fill.ensures.long }
 
 pub returns-then-not-relations : goal.returns-then-not-relations
 returns-then-not-relations c = tables-twice _ _ _ _ c.requires.sound_description.0 c.fill.ensures c.relations.ensures.0 c.if-not-relations.true ∙ tables-legal _ _ _

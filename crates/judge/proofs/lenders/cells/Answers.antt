@@ -1,6 +1,5 @@
 use mathlib.Core.Path.{refl, sym}
-use native.Mathlib.Omega.{arith}
-use Rattle.bounded.proofs.All.{all_start, all_more, all-fails, all_end}
+use Rattle.bounded.proofs.All.{all_start, all_more, all-fails}
 use Rattle.model.proofs.Sound.{sound-says}
 use Rattle.judge.proofs.Places.{known-none}
 use Rattle.judge.proofs.Columns.{fitting}
@@ -18,6 +17,3 @@ returns-then-not-cell c = sym (all-fails _ _ _ c.cell.ensures.0 c.if-not-cell.tr
 
 pub loop-k-preserved : goal.loop-k-preserved
 loop-k-preserved c = let l = c.loop-k in (all_more l.k _ l.invariant.0 c.cell.ensures.0 c.if-not-cell.false, c.cell.ensures.1)
-
-pub returns : goal.returns
-returns c = let l = c.loop-k in sym (all_end _ l.k _ l.invariant.0 l.auto.k-end c.loop-k-test.false)

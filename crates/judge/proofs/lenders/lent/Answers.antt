@@ -1,7 +1,7 @@
 use Prim.Native.Nat.{suc}
 use mathlib.Core.Path.{sym, ◌∙◌}
 use native.Mathlib.Omega.{arith}
-use Rattle.judge.proofs.Places.{Lent, lends_none, lends_some, lent-spot, lent_other, lent_same, same_class}
+use Rattle.judge.proofs.Places.{lends_none, lends_some, lent-spot, lent_other, lent_same, same_class}
 use Rattle.judge.proofs.lenders.lent.Goals as goal
 
 pub returns-in_default : goal.returns-in_default

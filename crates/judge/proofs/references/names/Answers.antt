@@ -1,4 +1,3 @@
-use Prim.Native.Nat.{◌<◌}
 use native.Mathlib.Omega.{arith}
 use Rattle.bounded.proofs.Found.{some-below, none-below}
 use Rattle.judge.proofs.Places.{spot, spot-row}

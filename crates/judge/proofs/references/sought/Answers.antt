@@ -1,5 +1,4 @@
 use mathlib.Core.Path.{ap, sym, ◌∙◌}
-use Prim.Native.Nat.{ℕ}
 use Rattle.bounded.specs.Bounded.{some_below}
 use Rattle.judge.proofs.Places.{place_found}
 use Rattle.judge.proofs.references.sought.Goals as goal

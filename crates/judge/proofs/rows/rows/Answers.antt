@@ -1,5 +1,5 @@
 use mathlib.Core.Path.{sym}
-use Rattle.bounded.proofs.All.{all_start, all_more, all-fails, all_end}
+use Rattle.bounded.proofs.All.{all_start, all_more, all-fails}
 use Rattle.judge.proofs.rows.rows.Goals as goal
 
 pub loop-i-init : goal.loop-i-init
@@ -10,6 +10,3 @@ returns-then-not-row c = sym (all-fails _ _ _ c.row.ensures c.if-not-row.true c.
 
 pub loop-i-preserved : goal.loop-i-preserved
 loop-i-preserved c = all_more c.loop-i.i _ c.loop-i.invariant c.row.ensures c.if-not-row.false
-
-pub returns : goal.returns
-returns c = let l = c.loop-i in sym (all_end _ l.i _ l.invariant l.auto.i-end c.loop-i-test.false)

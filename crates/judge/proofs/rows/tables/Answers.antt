@@ -1,14 +1,10 @@
 use mathlib.Core.Path.{sym}
-use native.Mathlib.Omega.{arith}
 use Rattle.bounded.proofs.All.{all_start, all_more, all-fails, all_end}
 use Rattle.judge.specs.Facts.{tables_right}
 use Rattle.judge.proofs.rows.tables.Goals as goal
 
 pub loop-r-init : goal.loop-r-init
 loop-r-init c = all_start _
-
-pub relation-requires : goal.relation-requires
-relation-requires c = rw c.from-r-end.ensures at c.loop-r-test.true
 
 pub returns-then-not-relation : goal.returns-then-not-relation
 unfolding tables_right
