@@ -51,11 +51,9 @@ module _ (d : Description) (vs cs ks : List ℕ) (a : Area) (R : Ready d vs cs k
         (λ t. rw (ne_eqb v 0 z, t, none_out g, eqb-true (at d T a.relation l v 1).value v t, ne_eqb 0 v (λ e. z (sym e))))
         (λ t. rw (ne_eqb v 0 z, t))
 
-    pub names-none : {i : ℕ} → i ≡ place a.rows (T a.relation l) v → i ≡ a.rows → false ≡ names_right d T a.relation l (cell v c)
+    pub names-none : a.rows ≤ place a.rows (T a.relation l) v → false ≡ names_right d T a.relation l (cell v c)
     unfolding names_right
-    names-none {i} e q =
-        let b : a.rows ≤ place a.rows (T a.relation l) v = omega arith in
-        rw (ne_eqb v 0 z, at_none d vs cs ks a R l v b, ne_eqb 0 v (λ x. z (sym x)))
+    names-none b = rw (ne_eqb v 0 z, at_none d vs cs ks a R l v b, ne_eqb 0 v (λ x. z (sym x)))
 
     named-row : {i : ℕ} → (m : ℕ) → i ≡ place a.rows (T a.relation m) v → i < a.rows → at d T a.relation m v 1 ≡ cell v (T a.relation m i 1).class
     named-row {i} m e g =
@@ -67,11 +65,9 @@ module _ (d : Description) (vs cs ks : List ℕ) (a : Area) (R : Ready d vs cs k
     unfolding names_right same
     names-own {i} e g q = rw (ne_eqb v 0 z, q, named-row l e g, eq-eqb v v refl, eq-eqb (T a.relation l i 1).class (T a.relation l i 1).class refl)
 
-    pub names-lost : {i j : ℕ} → i ≡ place a.rows (T a.relation l) v → i < a.rows → j ≡ place a.rows (T a.relation c) v → j ≡ a.rows → false ≡ names_right d T a.relation l (cell v c)
+    pub names-lost : {i : ℕ} → i ≡ place a.rows (T a.relation l) v → i < a.rows → a.rows ≤ place a.rows (T a.relation c) v → false ≡ names_right d T a.relation l (cell v c)
     unfolding names_right same
-    names-lost {i} {j} e g f q =
-        let b : a.rows ≤ place a.rows (T a.relation c) v = omega arith in
-        rw (ne_eqb v 0 z, named-row l e g, eq-eqb v v refl, at_none d vs cs ks a R c v b, ne_eqb 0 v (λ x. z (sym x)))
+    names-lost {i} e g b = rw (ne_eqb v 0 z, named-row l e g, eq-eqb v v refl, at_none d vs cs ks a R c v b, ne_eqb 0 v (λ x. z (sym x)))
 
     pub names-both : {i j p q : ℕ} → i ≡ place a.rows (T a.relation l) v → i < a.rows → j ≡ place a.rows (T a.relation c) v → j < a.rows → c < d.levels
         → p ≡ a.start + (c * a.rows + j) * a.cols → q ≡ a.start + (l * a.rows + i) * a.cols

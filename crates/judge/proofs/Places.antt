@@ -1,11 +1,11 @@
 -- Where a relation's rows and keys stand, and what the row of an entity at a level lends.
 -- Assumes nothing.
-use Rattle.std.specs.Prelude.{if◌then◌else◌}
+use Rattle.std.specs.Prelude.{if◌then◌else◌, Option, Some, None}
 use mathlib.Core.Path.{◌≡◌, refl, sym, ap, subst, ◌∙◌}
-use mathlib.Core.Logic.{◌≢◌, ◌⊎◌, inl, inr}
+use mathlib.Core.Logic.{◌≢◌, ◌⊎◌, inl, inr, ⊎_elim}
 use mathlib.Core.List.{List}
 use Prim.Native.Nat.{ℕ, suc, ◌+◌, ◌*◌, ◌≤◌, ◌<◌}
-use native.Mathlib.Nat.{le_refl, mul-le-mul_right, lt_of_lt_of_le, add-zero}
+use native.Mathlib.Nat.{mul-le-mul_right, lt_of_lt_of_le, add-zero}
 use native.Mathlib.Omega.{arith}
 use lib.Dec.{eqb, ltb}
 use lib.ListN.{get_or, set, length-set, replicate, length-replicate, get_or-replicate}
@@ -63,31 +63,30 @@ module _ (d : Description) (vs cs ks : List ℕ) (a : Area) (R : Ready d vs cs k
   at_none l v h = rw (← R.rows, le-ltb _ _ h)
 
   -- what the lender's row lends, by where it stands
-  pub lends_none : (l v c k : ℕ) → l < d.levels → v ≢ 0 → lender_of T a v c l ≡ 65535 → lends (at d T a.relation l v) (cell v c) k l ≡ cell 0 l
+  pub lends_none : (l v c k : ℕ) → l < d.levels → v ≢ 0 → lender_of T a v c l ≡ None → lends (at d T a.relation l v) (cell v c) k l ≡ cell 0 l
   unfolding lender_of lends same
   lends_none l v c k h z e =
       cases (ltb (place a.rows (T a.relation l) v) a.rows)
       (λ t. let g = ltb-true _ _ t in
       cases (eqb (T a.relation l (place a.rows (T a.relation l) v) 1).class c)
-      (λ u. let q : a.start + (l * a.rows + place a.rows (T a.relation l) v) * a.cols ≡ 65535 = rw (t, u) at e in absurd (omega (arith, spot-row l _ h g)))
+      (λ u. let q : Some (a.start + (l * a.rows + place a.rows (T a.relation l) v) * a.cols) ≡ None = rw (t, u) at e in cc)
       (λ u. rw (at-found l v g, eq-eqb _ _ (key-is l v g), u)))
       (λ t. rw (at_none l v (ltb-false _ _ t), ne_eqb 0 v (λ q. z (sym q))))
 
-  pub lends_some : (l v c k : ℕ) → l < d.levels → (lender_of T a v c l ≡ 65535 → ⊥)
-      → Lent d T a l v c k (lender_of T a v c l)
+  pub lends_some : (l v c k : ℕ) {p : ℕ} → l < d.levels → Some p ≡ lender_of T a v c l → Lent d T a l v c k p
   unfolding lender_of lends same
-  lends_some l v c k h e =
+  lends_some l v c k {p} h e =
       cases (ltb (place a.rows (T a.relation l) v) a.rows)
       (λ t. let g = ltb-true _ _ t in
       cases (eqb (T a.relation l (place a.rows (T a.relation l) v) 1).class c)
       (λ u. record {
         row = place a.rows (T a.relation l) v;
         below = g;
-        stands = rw (t, u);
+        stands = (let q : Some p ≡ Some (a.start + (l * a.rows + place a.rows (T a.relation l) v) * a.cols) = rw (t, u) at e in cc);
         lends-it = rw (at-found l v g, eq-eqb _ _ (key-is l v g), u);
       })
-      (λ u. absurd (e (rw (t, u)))))
-      (λ t. absurd (e (rw t)))
+      (λ u. let q : Some p ≡ None = rw (t, u) at e in cc))
+      (λ t. let q : Some p ≡ None = rw t at e in cc)
 
   pub class-is : (l i k : ℕ) → l < d.levels → i < a.rows → k < a.cols → (T a.relation l i (suc k)).class ≡ get_or cs (a.start + (l * a.rows + i) * a.cols + k) 0
   class-is l i k h g f = ap (λ (x : Cell). x.class) (R.cells l i k h g f)
@@ -103,25 +102,23 @@ module _ (d : Description) (vs cs ks : List ℕ) (a : Area) (R : Ready d vs cs k
 
   -- ---- the lender's row
   module _ (l v c : ℕ) (h : l < d.levels) where
-    pub lender-absent : {f : ℕ} → f ≡ first_below a.rows (has_key ks (a.start + l * a.rows) v) → f ≡ a.rows → 65535 ≡ lender_of T a v c l
+    pub lender-absent : a.rows ≤ first_below a.rows (has_key ks (a.start + l * a.rows) v) → None ≡ lender_of T a v c l
     unfolding lender_of
-    lender-absent {f} e q =
-        let g : place a.rows (T a.relation l) v ≡ a.rows = place_found l v h ∙ sym e ∙ q in
-        rw (g, le-ltb a.rows a.rows (le_refl a.rows))
+    lender-absent e = let g : a.rows ≤ place a.rows (T a.relation l) v = rw (place_found l v h) e in rw (le-ltb _ _ g)
 
-    pub lender-other : {f p : ℕ} → f ≡ first_below a.rows (has_key ks (a.start + l * a.rows) v) → f < a.rows → p ≡ a.start + (l * a.rows + f) * a.cols → (get_or cs p 0 ≡ c → ⊥) → 65535 ≡ lender_of T a v c l
+    pub lender-other : {f p : ℕ} → f ≡ first_below a.rows (has_key ks (a.start + l * a.rows) v) → f < a.rows → p ≡ a.start + (l * a.rows + f) * a.cols → (get_or cs p 0 ≡ c → ⊥) → None ≡ lender_of T a v c l
     unfolding lender_of
     lender-other {f} {p} e g s n =
         let q : place a.rows (T a.relation l) v ≡ f = place_found l v h ∙ sym e in
         let m : (T a.relation l f 1).class ≡ get_or cs p 0 = rw s (key-class l f h g) in
         rw (q, lt-ltb f a.rows g, ne_eqb (T a.relation l f 1).class c (λ x. n (sym m ∙ x)))
 
-    pub lender-is : {f p : ℕ} → f ≡ first_below a.rows (has_key ks (a.start + l * a.rows) v) → f < a.rows → p ≡ a.start + (l * a.rows + f) * a.cols → get_or cs p 0 ≡ c → p ≡ lender_of T a v c l
+    pub lender-is : {f p : ℕ} → f ≡ first_below a.rows (has_key ks (a.start + l * a.rows) v) → f < a.rows → p ≡ a.start + (l * a.rows + f) * a.cols → get_or cs p 0 ≡ c → Some p ≡ lender_of T a v c l
     unfolding lender_of
     lender-is {f} {p} e g s n =
         let q : place a.rows (T a.relation l) v ≡ f = place_found l v h ∙ sym e in
         let m : (T a.relation l f 1).class ≡ get_or cs p 0 = rw s (key-class l f h g) in
-        rw (q, lt-ltb f a.rows g, eq-eqb (T a.relation l f 1).class c (m ∙ n)) s
+        rw (q, lt-ltb f a.rows g, eq-eqb (T a.relation l f 1).class c (m ∙ n)) (ap Some s)
 
     -- ---- what it lends in column k + 1
     module _ (k p : ℕ) (f : k < a.cols) (L : Lent d T a l v c (suc k) p) where
@@ -142,16 +139,18 @@ unfolding same
 same_class v w c = cases (eqb v w) (λ t. rw (t, eq-eqb c c refl)) (λ t. rw t)
 
 -- ---- the cache
-pub known-set : (d : Description) (T : Tables) (a : Area) (v c l p : ℕ) (s : List ℕ)
-    → Known d T a v c s → d.levels ≤ 16 → l < d.levels → p ≡ lender_of T a v c l → Known d T a v c (set s l p)
-known-set d T a v c l p s K h g e =
-    record {
-      size = length-set s l p ∙ K.size;
-      right = λ k b. cases (eqb l k)
-          (λ t. let q = eqb-true l k t in inr (subst (λ (x : ℕ). get_or (set s l p) x 0 ≡ lender_of T a v c x) q (get_or-set_same s l p 0 (omega (arith, K.size)) ∙ e)))
-          (λ t. subst (λ (x : ℕ). (x ≡ 65534) ⊎ (x ≡ lender_of T a v c k)) (sym (get_or-set_other s l k p 0 (λ q. eqb-false l k t (sym q)))) (K.right k b));
-    }
+module _ (d : Description) (U : Tables) (a : Area) (v c : ℕ) (few : d.levels ≤ 16) where
+  pub known-set : (l : ℕ) (p : Option ℕ) (s : List (Option (Option ℕ))) → Known d U a v c s → l < d.levels → p ≡ lender_of U a v c l → Known d U a v c (set s l (Some p))
+  known-set l p s K g e =
+      record {
+        size = length-set s l (Some p) ∙ K.size;
+        right = λ k b. cases (eqb l k)
+            (λ t. let q = eqb-true l k t in inr (subst (λ (x : ℕ). get_or (set s l (Some p)) x None ≡ Some (lender_of U a v c x)) q (get_or-set_same s l (Some p) None (omega (arith, K.size)) ∙ ap Some e)))
+            (λ t. subst (λ (x : Option (Option ℕ)). (x ≡ None) ⊎ (x ≡ Some (lender_of U a v c k))) (sym (get_or-set_other s l k (Some p) None (λ q. eqb-false l k t (sym q)))) (K.right k b));
+      }
 
-pub known-none : (d : Description) (T : Tables) (a : Area) (v c : ℕ) → d.levels ≤ 16 → Known d T a v c (replicate 16 65534)
-known-none d T a v c h =
-    record { size = length-replicate {A = ℕ} 16 65534; right = λ e g. inl (get_or-replicate {A = ℕ} 16 e 65534 0 (lt_of_lt_of_le g h)) }
+  pub known-none : Known d U a v c (replicate 16 None)
+  known-none = record { size = length-replicate {A = Option (Option ℕ)} 16 None; right = λ e g. inl (get_or-replicate {A = Option (Option ℕ)} 16 e None None (lt_of_lt_of_le g few)) }
+
+  pub known-is : (l : ℕ) (s : List (Option (Option ℕ))) {p : Option ℕ} → Known d U a v c s → l < d.levels → get_or s l None ≡ Some p → p ≡ lender_of U a v c l
+  known-is l s {p} K h e = ⊎_elim (λ q. let r : Some p ≡ None = sym e ∙ q in cc) (λ q. let r : Some p ≡ Some (lender_of U a v c l) = sym e ∙ q in cc) (K.right l h)

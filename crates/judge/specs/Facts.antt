@@ -1,6 +1,6 @@
 -- What the judge's inner functions know of the numbers and slices that they are given.
 -- Assumes nothing: these are definitions and statements.
-use Rattle.std.specs.Prelude.{◌≡◌, Bool, true, ◌&&◌, ◌||◌, ◌≢◌, ◌⊎◌, List, ℕ, suc, ◌+◌, ◌*◌, ◌≤◌, ◌<◌, eqb, ltb, length, get_or, if◌then◌else◌}
+use Rattle.std.specs.Prelude.{◌≡◌, Bool, true, ◌&&◌, ◌||◌, ◌≢◌, ◌⊎◌, List, ℕ, suc, ◌+◌, ◌*◌, ◌≤◌, ◌<◌, eqb, ltb, length, get_or, if◌then◌else◌, Option, Some, None}
 use Rattle.bounded.specs.Bounded.{all_below}
 use Rattle.model.specs.declared.Description.{Description}
 use Rattle.model.specs.Description.{over, column_count, row_count, foreign_of, refers_of, sound}
@@ -96,11 +96,11 @@ pub record InRow (d : Description) (vs cs : List ℕ) (a : Area) (l i row v c : 
   pub class : c ≡ get_or cs row 0
   pub real : v ≢ 0
 
--- where the row of entity (v, c) at level l starts, or 65535 where there is none
-unfoldable pub lender_of : Tables → Area → ℕ → ℕ → ℕ → ℕ
+-- where the row of entity (v, c) at level l starts
+unfoldable pub lender_of : Tables → Area → ℕ → ℕ → ℕ → Option ℕ
 lender_of T a v c l =
     let i = place a.rows (T a.relation l) v in
-    if ltb i a.rows && eqb (T a.relation l i 1).class c then a.start + (l * a.rows + i) * a.cols else 65535
+    if ltb i a.rows && eqb (T a.relation l i 1).class c then Some (a.start + (l * a.rows + i) * a.cols) else None
 
 -- what is asked of column k + 1 of row i at level l, where the tables stand in two lists
 abbrev pub right_cell : Description → List ℕ → List ℕ → Area → ℕ → ℕ → ℕ → Bool
@@ -110,11 +110,7 @@ right_cell d vs cs a l i k = cell_right d (rows_in d vs cs) a.relation l (rows_i
 abbrev pub right_reference : Description → List ℕ → List ℕ → Area → ℕ → ℕ → Bool
 right_reference d vs cs a l i = reference_right d (rows_in d vs cs) a.relation l (rows_in d vs cs a.relation l i (foreign_of d a.relation))
 
--- what a row's cache holds for each level: 65534 or the entity's row there
-pub record Known (d : Description) (T : Tables) (a : Area) (v c : ℕ) (cache : List ℕ) : Type 0 where
+-- what a row's cache holds for each level: nothing, or where the entity's row there starts
+pub record Known (d : Description) (T : Tables) (a : Area) (v c : ℕ) (cache : List (Option (Option ℕ))) : Type 0 where
   pub size : length cache ≡ 16
-  pub right : (e : ℕ) → e < d.levels → (get_or cache e 0 ≡ 65534) ⊎ (get_or cache e 0 ≡ lender_of T a v c e)
-
--- r is where the row of entity (v, c) at level l starts, and the cache is right
-abbrev pub LooksUp : Description → List ℕ → List ℕ → Area → ℕ → ℕ → ℕ → List ℕ → ℕ → Type 0
-LooksUp d vs cs a v c l cache r = (r ≡ lender_of (rows_in d vs cs) a v c l) × Known d (rows_in d vs cs) a v c cache
+  pub right : (e : ℕ) → e < d.levels → (get_or cache e None ≡ None) ⊎ (get_or cache e None ≡ Some (lender_of T a v c e))

@@ -1,120 +1,73 @@
-// The cells of a row. Descriptions that are passed on are named by the contracts alone: no function here reads one, and so they cost nothing.
-ghost use Rattle.std.specs.Prelude.{◌≡◌, suc, ◌<◌, ◌≤◌};
+// The cells of a row.
+ghost use Rattle.std.specs.Prelude.{◌≡◌, suc, ◌<◌};
 ghost use Rattle.bounded.specs.Bounded.{all_below};
 ghost use Rattle.model.specs.Tables.{cell, nocell, same, at as row_at, lends, empty_row};
-ghost use Rattle.model.specs.Buffers.{rows_in};
-ghost use Rattle.keys.specs.Facts.{Ranges};
-ghost use Rattle.judge.specs.Facts.{Ready, Asked, lender_of, right_cell, Known, LooksUp, InRow, Spot, Fitting, Between};
+ghost use Rattle.judge.specs.Facts.{Fitting, Between};
+ghost use Rattle.judge.specs.Views.{description_of, rows_of, row_of, cell_of, lender_at, Knows};
 
-use keys::areas::{Area, at};
+use super::tables::{KeyedRow, Row};
+use keys::areas::at;
 use keys::find;
 use keys::words::has;
-use model::Description;
 
-// Where the row of entity (`key`, `kc`) at a level starts, or 65535.
-fn lender(
-    values: &[u32],
-    classes: &[u8],
-    keys: &[u32],
-    d: Description,
-    area: Area,
-    key: u32,
-    kc: u8,
-    level: usize,
-) -> usize
-    requires ready { Ready d values.now classes.now keys.now area }
-    requires asked { Asked d level key }
-    ensures { (result ≡ lender_of (rows_in d values.now classes.now) area key kc level) × (result ≤ 65535) }
+// Where the row of the entity at a level starts.
+fn lender(entity: &KeyedRow, level: usize) -> Option<u16>
+    requires { level < (description_of entity.now.row.relation.now).levels }
+    ensures { result ≡ lender_at entity.now level }
 {
-    let rows = area.rows;
-    let from = area.start + level * rows;
-    let i = find(keys, from, rows, key);
-    if i == rows {
-        return 65535;
+    let relation = entity.row.relation;
+    let rows = relation.area.rows;
+    let from = relation.area.start + level * rows;
+    let i = find(relation.tables.keys, from, rows, entity.key)?;
+    let p = at(relation.area, level, i);
+    if relation.tables.classes[p] != entity.class {
+        return None;
     }
-    let p = at(area, level, i);
-    if classes[p] != kc {
-        return 65535;
-    }
-    p
+    Some(p as u16)
 }
 
 // The same, looked up once for a row and level.
-fn cached(
-    values: &[u32],
-    classes: &[u8],
-    keys: &[u32],
-    cache: &mut [u16],
-    d: Description,
-    area: Area,
-    key: u32,
-    kc: u8,
-    level: usize,
-) -> usize
-    requires ready { Ready d values.now classes.now keys.now area × Asked d level key }
-    requires known { Known d (rows_in d values.now classes.now) area key kc cache.old }
-    ensures { LooksUp d values.now classes.now area key kc level cache.new result }
+fn cached(entity: &KeyedRow, cache: &mut [Option<Option<u16>>; 16], level: usize) -> Option<u16>
+    requires level { level < (description_of entity.now.row.relation.now).levels }
+    requires known { Knows entity.now cache.old }
+    ensures { (result ≡ lender_at entity.now level) × Knows entity.now cache.new }
 {
-    let known = cache[level];
-    if known != 65534 {
-        return known as usize;
+    if let Some(known) = cache[level] {
+        return known;
     }
-    let p = lender(values, classes, keys, d, area, key, kc, level);
-    cache[level] = p as u16;
+    let p = lender(entity, level);
+    cache[level] = Some(p);
     p
 }
 
 // The cell (`v`, `c`) of column k + 1 is what the row that starts at `p` lends.
-fn lent(
-    values: &[u32],
-    classes: &[u8],
-    keys: &[u32],
-    d: Description,
-    area: Area,
-    key: u32,
-    kc: u8,
-    p: usize,
-    k: usize,
-    v: u32,
-    c: u8,
-) -> bool
-    requires ready { Ready d values.now classes.now keys.now area × Asked d c key }
-    requires from_lender { (p ≡ lender_of (rows_in d values.now classes.now) area key kc c) × (k < area.cols) }
-    ensures { result ≡ same (cell v c) (lends (row_at d (rows_in d values.now classes.now) area.relation c key) (cell key kc) (suc k) c) }
+fn lent(entity: &KeyedRow, p: Option<u16>, k: usize, v: u32, c: u8) -> bool
+    requires level { c < (description_of entity.now.row.relation.now).levels }
+    requires from_lender { (p ≡ lender_at entity.now c) × (k < entity.now.row.relation.now.area.cols) }
+    ensures { result ≡ same (cell v c) (lends (row_at (description_of entity.now.row.relation.now) (rows_of entity.now.row.relation.now) entity.now.row.relation.now.area.relation c entity.now.key) (cell entity.now.key entity.now.class) (suc k) c) }
 {
-    if p == 65535 {
+    let Some(p) = p else {
+        return v == 0;
+    };
+    let tables = entity.row.relation.tables;
+    let place = p as usize + k;
+    if tables.classes[place] != c {
         return v == 0;
     }
-    let place = p + k;
-    if classes[place] != c {
-        return v == 0;
-    }
-    v == values[place]
+    v == tables.values[place]
 }
 
 // Column k + 1 of a row with a key.
-fn cell(
-    values: &[u32],
-    classes: &[u8],
-    keys: &[u32],
-    cache: &mut [u16],
-    d: Description,
-    area: Area,
-    level: usize,
-    i: usize,
-    row: usize,
-    k: usize,
-    word: u16,
-    key: u32,
-    kc: u8,
-) -> bool
-    requires ready { Ready d values.now classes.now keys.now area × InRow d values.now classes.now area level i row key kc × (k < area.cols) }
-    requires fitting { Fitting d area.relation level (suc k) kc word × Known d (rows_in d values.now classes.now) area key kc cache.old }
-    ensures { (result ≡ right_cell d values.now classes.now area level i k) × Known d (rows_in d values.now classes.now) area key kc cache.new }
+fn cell(entity: &KeyedRow, cache: &mut [Option<Option<u16>>; 16], k: usize, word: u16) -> bool
+    requires column { k < entity.now.row.relation.now.area.cols }
+    requires fitting { Fitting (description_of entity.now.row.relation.now) entity.now.row.relation.now.area.relation entity.now.row.level (suc k) entity.now.class word }
+    requires known { Knows entity.now cache.old }
+    ensures { (result ≡ cell_of entity.now.row k) × Knows entity.now cache.new }
 {
-    let place = row + k;
-    let c = classes[place];
-    let v = values[place];
+    let tables = entity.row.relation.tables;
+    let place = entity.row.start + k;
+    let c = tables.classes[place];
+    let v = tables.values[place];
     if c == 255 {
         return v == 0;
     }
@@ -122,93 +75,48 @@ fn cell(
         return false;
     }
     let e = c as usize;
-    if e == level {
+    if e == entity.row.level {
         return true;
     }
-    let p = cached(values, classes, keys, cache, d, area, key, kc, e);
-    lent(values, classes, keys, d, area, key, kc, p, k, v, c)
+    let p = cached(entity, cache, e);
+    lent(entity, p, k, v, c)
 }
 
-// Every column of a row with a key.
-pub(crate) fn cells(
-    values: &[u32],
-    classes: &[u8],
-    keys: &[u32],
-    ranges: &[u16],
-    d: Description,
-    area: Area,
-    level: usize,
-    i: usize,
-    row: usize,
-    word: u16,
-    key: u32,
-    kc: u8,
-) -> bool
-    requires ready { Ready d values.now classes.now keys.now area × InRow d values.now classes.now area level i row key kc }
-    requires ranges { Ranges d 81 ranges.now × Between d level kc word }
-    ensures { result ≡ all_below area.cols (λ k. right_cell d values.now classes.now area level i k) }
+// Every column of a row with a key, whose cells may have the classes in `word` besides those of their ranges.
+pub(crate) fn cells(entity: &KeyedRow, word: u16) -> bool
+    requires { Between (description_of entity.now.row.relation.now) entity.now.row.level entity.now.class word }
+    ensures { result ≡ all_below entity.now.row.relation.now.area.cols (cell_of entity.now.row) }
 {
-    let column = 9 * area.relation + 1;
-    let cols = area.cols;
-    let mut cache = [65534u16; 16];
-    let mut k = 0;
-    while k < cols {
-        let fit = ranges[column + k] & word;
-        if !cell(
-            values, classes, keys, &mut cache, d, area, level, i, row, k, fit, key, kc,
-        ) {
+    let relation = entity.row.relation;
+    let column = 9 * relation.area.relation + 1;
+    let mut cache = [None; 16];
+    for k in 0..relation.area.cols {
+        let fit = relation.tables.ranges[column + k] & word;
+        if !cell(entity, &mut cache, k, fit) {
             return false;
         }
-        k += 1;
     }
     true
 }
 
 // The cell of column k + 1 is empty.
-fn blank(
-    values: &[u32],
-    classes: &[u8],
-    keys: &[u32],
-    d: Description,
-    area: Area,
-    level: usize,
-    i: usize,
-    row: usize,
-    k: usize,
-) -> bool
-    requires ready { Ready d values.now classes.now keys.now area × (k < area.cols) }
-    requires spot { Spot d area level i row }
-    ensures { result ≡ same (rows_in d values.now classes.now area.relation level i (suc k)) nocell }
+fn blank(row: &Row, k: usize) -> bool
+    requires { k < row.now.relation.now.area.cols }
+    ensures { result ≡ same (row_of row.now (suc k)) nocell }
 {
-    let place = row + k;
-    if values[place] != 0 {
-        return false;
-    }
-    classes[place] == 255
+    let tables = row.relation.tables;
+    let place = row.start + k;
+    tables.values[place] == 0 && tables.classes[place] == 255
 }
 
 // Every column of a row with no key.
-pub(crate) fn empty(
-    values: &[u32],
-    classes: &[u8],
-    keys: &[u32],
-    d: Description,
-    area: Area,
-    level: usize,
-    i: usize,
-    row: usize,
-) -> bool
-    requires ready { Ready d values.now classes.now keys.now area }
-    requires spot { Spot d area level i row }
-    ensures { result ≡ empty_row d area.relation (rows_in d values.now classes.now area.relation level i) }
+pub(crate) fn empty(row: &Row) -> bool
+    ensures { result ≡ empty_row (description_of row.now.relation.now) row.now.relation.now.area.relation (row_of row.now) }
 {
-    let cols = area.cols;
-    let mut k = 0;
-    while k < cols {
-        if !blank(values, classes, keys, d, area, level, i, row, k) {
+    for k in 0..row.relation.area.cols {
+        if !blank(row, k) {
             return false;
         }
-        k += 1;
     }
     true
 }

@@ -4,6 +4,7 @@
 mod lenders;
 mod references;
 mod rows;
+mod tables;
 
 ghost use Rattle.std.specs.Prelude.{◌≡◌, true, length};
 ghost use Rattle.level.specs.Order.{order_of};
@@ -12,8 +13,9 @@ ghost use Rattle.model.specs.Buffers.{holding, state_of};
 ghost use Rattle.model.specs.Ledger.{lending};
 ghost use Rattle.model.specs.Judge as judges;
 
+use crate::tables::Tables;
 use keys::{areas, words};
-use model::{Description, Verdict};
+use model::{Description, Fault, Verdict};
 
 // The tables are legal. The order and the ranges are laid out as words and the keys side by side; that no key stands twice at a level is tested
 // first, then each row and cell once.
@@ -31,16 +33,16 @@ fn legal(description: Description, order: [[bool; 16]; 16], values: &[u32], clas
     if !keys::relations(&mut keys, description, starts) {
         return false;
     }
-    rows::tables(
+    rows::tables(&Tables {
+        description: &description,
         values,
         classes,
-        &keys,
-        &ranges,
-        &below,
-        &above,
-        description,
+        keys: &keys,
+        ranges: &ranges,
+        below: &below,
+        above: &above,
         starts,
-    )
+    })
 }
 
 // What is to be said of a description and two buffers, where the order is laid out: the first of what is wrong.
@@ -54,26 +56,26 @@ pub fn verdict(
     ensures { result ≡ judges.judge description (lending (holding values.now classes.now)) }
 {
     if !describe::ordered(description, order) {
-        return Verdict::Description;
+        return Err(Fault::Description);
     }
     let total = describe::total(description);
     if values.len() != total {
-        return Verdict::Length;
+        return Err(Fault::Length);
     }
     if classes.len() != total {
-        return Verdict::Length;
+        return Err(Fault::Length);
     }
     if !legal(description, order, values, classes) {
-        return Verdict::Illegal;
+        return Err(Fault::Illegal);
     }
-    Verdict::Legal
+    Ok(())
 }
 
 // The same for any description: the order is laid out first.
 pub fn judge(description: Description, values: &[u32], classes: &[u8]) -> Verdict
     ensures { result ≡ judges.judge description (lending (holding values.now classes.now)) }
 {
-    let levels = describe::wide(description.levels);
+    let levels = usize::from(description.levels);
     let labels = description.labels;
     let order = level::order(labels, levels);
     verdict(description, order, values, classes)

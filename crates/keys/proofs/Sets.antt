@@ -11,11 +11,12 @@ use lib.Arith.{bin_ind}
 use lib.Pow.{pow_mono, pow_pos, shr-shr, shl_exact}
 use lib.Dec.{eqb, ltb}
 use lib.Bits.{bit_and, bit_or, and_step, and_shr, or_step, or_shr}
-use lib.ListN.{length, get_or, set, length-set}
+use lib.ListN.{length, get_or, set}
 use lib.Seq.{ext_get_or, get_or-set_same, get_or-set_other}
 use borrow.Author.Count.{below_more}
 use borrow.Author.Tests.{eq-eqb, ne_eqb, eqb-true, eqb-false, lt-ltb, le-ltb, ltb-true, ltb-false}
-use Rattle.bounded.proofs.Cases.{cases, and-false-right}
+use Rattle.std.proofs.lemmas.List.{get_or_past}
+use Rattle.bounded.proofs.Cases.{cases}
 use Rattle.level.specs.Order.{order_of}
 use Rattle.level.proofs.Levels.{order-laws}
 use Rattle.model.specs.declared.Description.{Description}
@@ -79,9 +80,6 @@ with-on w b on t =
     same_bit : (c : ℕ) → c ≡ b → bit (bit_or w (2 ^ b)) c ≡ 1
     same_bit c e = rw e (omega (arith, bit-or w (2 ^ b) b, bit-pow-same b))
 
-pub with-off : (w b : ℕ) (on : Bool) → on ≡ false → With w b on w
-with-off w b on t = record { right = λ c. cases (eqb c b) (λ e. rw (e, t)) (λ e. rw e) }
-
 -- ---- the levels of which a test is true
 
 bit-zero : (c : ℕ) → has_bit 0 c ≡ false
@@ -123,20 +121,6 @@ each_more P i l v h p q =
     below_more _ i
     (λ k lt. subst (P k) (sym (get_or-set_other l i k v 0 (omega arith))) (q k lt))
     (subst (P i) (sym (get_or-set_same l i v 0 h)) p)
-
-pub words_more : (order : List (List Bool)) (turned : Bool) (a w : ℕ) (ws : List ℕ) → a < 16 → Word (pair_of order turned a) 16 w → Words order turned a ws → Words order turned (a + 1) (set ws a w)
-words_more order turned a w ws h W G =
-    record {
-      long = length-set ws a w ∙ G.long;
-      right = each_more (λ k x. Word (pair_of order turned k) 16 x) a ws w (omega (arith, G.long)) W G.right;
-    }
-
-pub ranges_more : (d : Description) (p w : ℕ) (ws : List ℕ) → p < 81 → Within d (get_or d.low p 0) (get_or d.high p 0) w → Ranges d p ws → Ranges d (p + 1) (set ws p w)
-ranges_more d p w ws h W G =
-    record {
-      long = length-set ws p w ∙ G.long;
-      right = each_more (λ k x. Within d (get_or d.low k 0) (get_or d.high k 0) x) p ws w (omega (arith, G.long)) W G.right;
-    }
 
 -- ---- at most one
 
@@ -191,12 +175,19 @@ module _ (d : Description) (order : List (List Bool)) (s : sound d ≡ true) (e 
 
 -- ---- ranges
 
-module _ (d : Description) (low high : ℕ) (s : sound d ≡ true) where
-  pub range-low : 16 ≤ low → Within d low high 0
-  range-low h = record { right = λ c. bit-zero c ∙ sym (and-false-right (over d high c) (over d c low) (over-low d s c low h)) }
+-- where no level is, the words say nothing
+module _ (d : Description) (s : sound d ≡ true) (bs us : List ℕ) (G : Orders d bs us) where
+  below-all : (a b : ℕ) → has_bit (get_or bs a 0) b ≡ over d a b
+  below-all a b =
+      cases (ltb a 16)
+      (λ t. G.below a b (ltb-true a 16 t))
+      (λ t. let h = ltb-false a 16 t in rw (get_or_past bs a 0 (omega (arith, G.long)), bit-zero b) (sym (over-high d s a b h)))
 
-  pub range-high : 16 ≤ high → Within d low high 0
-  range-high h = record { right = λ c. bit-zero c ∙ rw (over-high d s high c h) }
+  above-all : (a b : ℕ) → has_bit (get_or us b 0) a ≡ over d a b
+  above-all a b =
+      cases (ltb b 16)
+      (λ t. G.above a b (ltb-true b 16 t))
+      (λ t. let h = ltb-false b 16 t in rw (get_or_past us b 0 (omega (arith, G.wide)), bit-zero a) (sym (over-low d s a b h)))
 
-  pub range-of : (bs us : List ℕ) → Orders d bs us → low < 16 → high < 16 → Within d low high (bit_and (get_or bs high 0) (get_or us low 0))
-  range-of bs us G h k = record { right = λ c. bit-and (get_or bs high 0) (get_or us low 0) c ∙ rw (G.below high c k, G.above c low h) }
+  pub range-of : (low high : ℕ) → Within d low high (bit_and (get_or bs high 0) (get_or us low 0))
+  range-of low high = record { right = λ c. bit-and (get_or bs high 0) (get_or us low 0) c ∙ rw (below-all high c, above-all c low) }

@@ -37,7 +37,7 @@ pub ranges-settled : Settled ranges.Post
 ranges-settled κs a x y e f p q = ranges-one _ _ _ p q
 
 pub find-settled : Settled find.Post
-find-settled κs a x y e f p q = p.0 ∙ sym q.0
+find-settled κs a x y e f p q = p ∙ sym q
 
 -- ---- what is read of a buffer that is left open elsewhere
 

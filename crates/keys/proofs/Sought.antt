@@ -1,17 +1,18 @@
 -- A search that adds up the numbers of the rows that were met: as the key stands at most once, the sum is the row that has it.
 -- Assumes nothing.
-use Rattle.std.specs.Prelude.{if◌then◌else◌}
-use mathlib.Core.Path.{◌≡◌, refl, sym, ◌∙◌}
-use mathlib.Core.Bool.{Bool, true, false}
+use Rattle.std.specs.Prelude.{if◌then◌else◌, Option, Some, None, is_some}
+use mathlib.Core.Path.{◌≡◌, refl, sym, ap, ◌∙◌}
+use mathlib.Core.Bool.{Bool, true, false, not}
 use mathlib.Core.Logic.{◌⊎◌, inl, inr, ⊎_elim}
 use Prim.Native.Nat.{ℕ, ◌+◌, ◌-◌, ◌≤◌, ◌<◌}
-use native.Mathlib.Nat.{le_antisymm}
+use native.Mathlib.Nat.{le_antisymm, lt_irrefl}
 use native.Mathlib.Numerals.{add-one}
 use native.Mathlib.Omega.{arith}
-use lib.Dec.{ltb}
-use borrow.Author.Tests.{lt-ltb, ltb-true, ltb-false}
-use Rattle.bounded.specs.Bounded.{first_below}
+use lib.Dec.{eqb, ltb}
+use borrow.Author.Tests.{lt-ltb, ltb-true, ltb-false, eq-eqb, ne_eqb, not-true, not-false}
+use Rattle.bounded.specs.Bounded.{first_below, some_below}
 use Rattle.bounded.proofs.Cases.{cases, clash}
+use Rattle.bounded.proofs.Found.{below-some, below-none}
 use Rattle.bounded.proofs.First.{first_more, first-here, first-start, first_holds, first-le}
 
 pub first-none : (n : ℕ) (p : ℕ → Bool) → ((j : ℕ) → j < n → p j ≡ false) → first_below n p ≡ n
@@ -50,10 +51,22 @@ sought-more n m p f {x} h one s e =
     (λ a. let k = first-keep n p a.1 in inr (omega arith, omega arith))
     s)
 
-pub sought-zero : (n : ℕ) (p : ℕ → Bool) (f : ℕ) → Sought n p f → f ≡ 0 → n ≡ first_below n p
+pub sought-zero : (n : ℕ) (p : ℕ → Bool) (f : ℕ) → Sought n p f → f ≡ 0 → None ≡ some_below n (first_below n p)
 unfolding Sought
-sought-zero n p f s e = ⊎_elim (λ a. sym a.1) (λ a. absurd (omega arith)) s
+sought-zero n p f s e = sym (below-none n (first_below n p) (⊎_elim (λ a. omega arith) (λ a. absurd (omega arith)) s))
 
-pub sought-some : (n : ℕ) (p : ℕ → Bool) (f : ℕ) → Sought n p f → (f ≡ 0 → ⊥) → f - 1 ≡ first_below n p
+pub sought-some : (n : ℕ) (p : ℕ → Bool) (f : ℕ) → Sought n p f → (f ≡ 0 → ⊥) → Some (f - 1) ≡ some_below n (first_below n p)
 unfolding Sought
-sought-some n p f s e = ⊎_elim (λ a. absurd (e a.0)) (λ a. omega arith) s
+sought-some n p f s e =
+    ⊎_elim (λ a. absurd (e a.0)) (λ a. let q : f - 1 ≡ first_below n p = omega arith in ap Some q ∙ sym (below-some n (first_below n p) a.1)) s
+
+-- none of the first n is the first at which it holds
+pub sought-first : (n : ℕ) (p : ℕ → Bool) {x : Option ℕ} {b : Bool} → x ≡ some_below n (first_below n p) → is_some x ≡ not b → b ≡ eqb (first_below n p) n
+sought-first n p {x} {b} e q =
+    cases (ltb (first_below n p) n)
+    (λ t. let h = ltb-true _ _ t in
+    let y : true ≡ not b = rw (e, below-some n (first_below n p) h) at q in
+    not-true b (sym y) ∙ sym (ne_eqb (first_below n p) n (λ z. lt_irrefl n (rw z at h))))
+    (λ t. let h = ltb-false _ _ t in
+    let y : false ≡ not b = rw (e, below-none n (first_below n p) h) at q in
+    not-false b (sym y) ∙ sym (eq-eqb (first_below n p) n (le_antisymm (first-le n p) h)))

@@ -62,9 +62,6 @@ module _ (d : Description) where
   unfolding size_of
   cells-room r h = start-room (suc r) h
 
-  pub keyed-none : (vs ks : List ℕ) → length ks ≡ 16384 → Keyed d vs 0 ks
-  keyed-none vs ks e = record { long = e; right = λ r j h. absurd (omega arith) }
-
   pub keyed-more : sound d ≡ true → (vs ks xs : List ℕ) (m : ℕ) → m < d.relations → Keyed d vs m ks
       → Gathered vs ks xs (start_of d (suc m)) (d.levels * row_count d (suc m)) (column_count d (suc m)) → Keyed d vs (m + 1) xs
   keyed-more s vs ks xs m h K G =

@@ -3,7 +3,7 @@ ghost use Rattle.std.specs.Prelude.{◌≡◌, true, ◌+◌, ◌*◌, ◌<◌, 
 ghost use Rattle.model.specs.Description.{sound};
 ghost use Rattle.keys.specs.Facts.{Starting, area_of};
 
-use describe::{size, wide};
+use describe::size;
 use model::Description;
 
 // A relation: its number, where its cells and its keys start, how many levels there are, how many rows each of them has and how many columns, and
@@ -31,14 +31,11 @@ pub fn starts(d: Description) -> [usize; 9]
     requires { sound d ≡ true }
     ensures { Starting d result }
 {
-    let n = wide(d.relations);
     let mut starts = [0usize; 9];
     let mut sum = 0;
-    let mut r = 0;
-    while r < n {
+    for r in 0..usize::from(d.relations) {
         sum += size(d, r);
-        r += 1;
-        starts[r] = sum;
+        starts[r + 1] = sum;
     }
     starts
 }
@@ -48,17 +45,12 @@ pub fn laid(d: Description, starts: [usize; 9], relation: usize) -> Area
     requires { relation ≤ 8 }
     ensures { result ≡ area_of d starts relation }
 {
-    let start = starts[relation];
-    let levels = wide(d.levels);
-    let rows = wide(d.rows[relation]);
-    let cols = wide(d.columns[relation]);
-    let foreign = wide(d.foreign[relation]);
     Area {
-        relation: relation,
-        start: start,
-        levels: levels,
-        rows: rows,
-        cols: cols,
-        foreign: foreign,
+        relation,
+        start: starts[relation],
+        levels: usize::from(d.levels),
+        rows: usize::from(d.rows[relation]),
+        cols: usize::from(d.columns[relation]),
+        foreign: usize::from(d.foreign[relation]),
     }
 }

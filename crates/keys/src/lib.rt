@@ -5,24 +5,13 @@
 pub mod areas;
 pub mod words;
 
-ghost use Rattle.std.specs.Prelude.{◌≡◌, true, ◌+◌, ◌*◌, ◌<◌, ◌≤◌, eqb, length, if◌then◌else◌};
-ghost use Rattle.bounded.specs.Bounded.{first_below, all_below};
+ghost use Rattle.std.specs.Prelude.{◌≡◌, true, ◌+◌, ◌*◌, ◌<◌, ◌≤◌, length};
+ghost use Rattle.bounded.specs.Bounded.{first_below, some_below, all_below};
 ghost use Rattle.model.specs.Description.{total_of, sound};
 ghost use Rattle.keys.specs.Facts.{has_key, Once, first_of, slot_of, Noted, Kept, Gathered, Starting, Keyed, distinct_keys};
 
 use crate::areas::laid;
-use describe::wide;
 use model::Description;
-
-// `i` where `a` is `b`, else 0.
-fn one(a: u32, b: u32, i: u32) -> u32
-    ensures { result ≡ (if eqb a b then i else 0) }
-{
-    if a == b {
-        return i;
-    }
-    0
-}
 
 // Where the row of a key is noted, for the keys that stand from `from` on. A note only saves a search: two keys may have one place.
 fn slot(from: usize, key: u32) -> usize
@@ -32,37 +21,36 @@ fn slot(from: usize, key: u32) -> usize
     8192 + (17 * from + key as usize) % 8192
 }
 
-// The row of a key that stands at most once among `rows` keys, or `rows`. It has no branch on a key, so that the loop is vectorised.
-fn search(keys: &[u32], from: usize, rows: usize, key: u32) -> usize
+// The row of a key that stands at most once among `rows` keys. It has no branch on a key, so that the loop is vectorised.
+fn search(keys: &[u32], from: usize, rows: usize, key: u32) -> Option<usize>
     requires rows_in_bounds { (from + rows ≤ length keys.now) × (rows ≤ 64) }
     requires once { Once keys.now from rows key }
-    ensures { (result ≡ first_below rows (has_key keys.now from key)) × (result ≤ rows) }
+    ensures { result ≡ some_below rows (first_below rows (has_key keys.now from key)) }
 {
-    let mut i = 0;
     let mut found = 0u32;
-    while i < rows {
-        found = found + one(keys[from + i], key, i as u32 + 1);
-        i += 1;
+    for i in 0..rows {
+        found += if keys[from + i] == key {
+            i as u32 + 1
+        } else {
+            0
+        };
     }
     if found == 0 {
-        return rows;
+        return None;
     }
-    found as usize - 1
+    Some(found as usize - 1)
 }
 
 // The same row: the one that is noted where it has the key, else the one that is found. A note is 64 more than the row, and 0 is no note.
-pub fn find(keys: &[u32], from: usize, rows: usize, key: u32) -> usize
+pub fn find(keys: &[u32], from: usize, rows: usize, key: u32) -> Option<usize>
     requires rows_bound { (from + rows ≤ 8192) × (rows ≤ 64) × (length keys.now ≡ 16384) }
     requires once { Once keys.now from rows key }
-    ensures { (result ≡ first_below rows (has_key keys.now from key)) × (result ≤ rows) }
+    ensures { result ≡ some_below rows (first_below rows (has_key keys.now from key)) }
 {
     let place = slot(from, key);
     let i = (keys[place] % 64) as usize;
-    if rows <= i {
-        return search(keys, from, rows, key);
-    }
-    if keys[from + i] == key {
-        return i;
+    if i < rows && keys[from + i] == key {
+        return Some(i);
     }
     search(keys, from, rows, key)
 }
@@ -82,7 +70,7 @@ fn fresh(keys: &mut [u32], from: usize, rows: usize, i: usize) -> bool
         keys[place] = 64 + i as u32;
         return true;
     }
-    search(keys, from, i, key) == i
+    search(keys, from, i, key).is_none()
 }
 
 // No key stands twice among the keys of a level.
@@ -90,12 +78,10 @@ fn distinct(keys: &mut [u32], from: usize, rows: usize) -> bool
     requires { (from + rows ≤ 8192) × (rows ≤ 64) × (length keys.old ≡ 16384) }
     ensures { (result ≡ all_below rows (first_of keys.old from)) × Kept keys.old keys.new }
 {
-    let mut i = 0;
-    while i < rows {
+    for i in 0..rows {
         if !fresh(keys, from, rows, i) {
             return false;
         }
-        i += 1;
     }
     true
 }
@@ -105,13 +91,11 @@ fn levels(keys: &mut [u32], start: usize, levels: usize, rows: usize) -> bool
     requires { (start + levels * rows ≤ 8192) × (rows ≤ 64) × (levels ≤ 16) × (length keys.old ≡ 16384) }
     ensures { (result ≡ all_below levels (λ l. all_below rows (first_of keys.old (start + l * rows)))) × Kept keys.old keys.new }
 {
-    let mut l = 0;
-    while l < levels {
+    for l in 0..levels {
         let from = start + l * rows;
         if !distinct(keys, from, rows) {
             return false;
         }
-        l += 1;
     }
     true
 }
@@ -122,11 +106,9 @@ fn gather(values: &[u32], keys: &mut [u32], start: usize, n: usize, cols: usize)
     requires keys_len { (length keys.old ≡ 16384) × (length values.now ≤ 8192) }
     ensures { Gathered values.now keys.old keys.new start n cols }
 {
-    let mut i = 0;
-    while i < n {
+    for i in 0..n {
         let p = start + i * cols;
         keys[start + i] = values[p];
-        i += 1;
     }
 }
 
@@ -136,12 +118,9 @@ pub fn fill(values: &[u32], keys: &mut [u32], d: Description, starts: [usize; 9]
     requires values_len { (length values.now ≡ total_of d) × (length keys.old ≡ 16384) }
     ensures { Keyed d values.now d.relations keys.new }
 {
-    let n = wide(d.relations);
-    let mut r = 0;
-    while r < n {
+    for r in 0..usize::from(d.relations) {
         let area = laid(d, starts, r + 1);
         gather(values, keys, area.start, area.levels * area.rows, area.cols);
-        r += 1;
     }
 }
 
@@ -151,14 +130,11 @@ pub fn relations(keys: &mut [u32], d: Description, starts: [usize; 9]) -> bool
     requires keys_len { length keys.old ≡ 16384 }
     ensures { (result ≡ distinct_keys d keys.old) × Kept keys.old keys.new }
 {
-    let n = wide(d.relations);
-    let mut r = 0;
-    while r < n {
+    for r in 0..usize::from(d.relations) {
         let area = laid(d, starts, r + 1);
         if !levels(keys, area.start, area.levels, area.rows) {
             return false;
         }
-        r += 1;
     }
     true
 }

@@ -3,17 +3,13 @@ ghost use Rattle.std.specs.Prelude.{◌≡◌, true, ◌<◌};
 ghost use Rattle.model.specs.Description.{sound};
 ghost use Rattle.keys.specs.Facts.{has_bit, With, pair_of, Word, Words, Orders, Within, Ranges};
 
-use describe::wide;
 use model::Description;
 
 // The class is in the set.
 pub fn has(word: u16, class: u8) -> bool
     ensures { result ≡ has_bit word class }
 {
-    if 16 <= class {
-        return false;
-    }
-    (word >> class) % 2 == 1
+    class < 16 && (word >> class) % 2 == 1
 }
 
 // The set, with level `b` in it where `on`.
@@ -21,10 +17,7 @@ fn with(word: u16, b: usize, on: bool) -> u16
     requires { b < 16 }
     ensures { With word b on result }
 {
-    if on {
-        return word | (1 << b);
-    }
-    word
+    if on { word | (1 << b) } else { word }
 }
 
 // The levels that level `a` dominates, or, `turned`, is dominated by.
@@ -33,11 +26,9 @@ fn word(order: [[bool; 16]; 16], turned: bool, a: usize) -> u16
     ensures { Word (pair_of order turned a) 16 result }
 {
     let mut word = 0u16;
-    let mut b = 0;
-    while b < 16 {
+    for b in 0..16 {
         let on = if turned { order[b][a] } else { order[a][b] };
         word = with(word, b, on);
-        b += 1;
     }
     word
 }
@@ -47,10 +38,8 @@ pub fn words(order: [[bool; 16]; 16], turned: bool) -> [u16; 16]
     ensures { Words order turned 16 result }
 {
     let mut words = [0u16; 16];
-    let mut a = 0;
-    while a < 16 {
+    for a in 0..16 {
         words[a] = word(order, turned, a);
-        a += 1;
     }
     words
 }
@@ -60,13 +49,7 @@ fn range(below: &[u16], above: &[u16], d: Description, low: usize, high: usize) 
     requires { (sound d ≡ true) × Orders d below.now above.now }
     ensures { Within d low high result }
 {
-    if 16 <= low {
-        return 0;
-    }
-    if 16 <= high {
-        return 0;
-    }
-    below[high] & above[low]
+    below.get(high).copied().unwrap_or(0) & above.get(low).copied().unwrap_or(0)
 }
 
 // The range of each column.
@@ -75,12 +58,14 @@ pub fn ranges(below: &[u16], above: &[u16], d: Description) -> [u16; 81]
     ensures { Ranges d 81 result }
 {
     let mut ranges = [0u16; 81];
-    let mut p = 0;
-    while p < 81 {
-        let low = wide(d.low[p]);
-        let high = wide(d.high[p]);
-        ranges[p] = range(below, above, d, low, high);
-        p += 1;
+    for p in 0..81 {
+        ranges[p] = range(
+            below,
+            above,
+            d,
+            usize::from(d.low[p]),
+            usize::from(d.high[p]),
+        );
     }
     ranges
 }

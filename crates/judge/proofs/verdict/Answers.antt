@@ -1,9 +1,5 @@
-use mathlib.Core.Path.{sym, ◌∙◌}
 use Rattle.judge.proofs.Passes.{judge-unsound, judge-values, judge-classes, judge-illegal, judge-legal}
 use Rattle.judge.proofs.verdict.Goals as goal
-
-pub ordered-requires : goal.ordered-requires
-ordered-requires c = c.requires
 
 pub returns-then-not-ordered : goal.returns-then-not-ordered
 returns-then-not-ordered c = judge-unsound _ _ _ c.ordered.ensures c.if-not-ordered.true
@@ -13,9 +9,6 @@ returns-then-values-total c = judge-values _ _ _ c.ordered.ensures c.if-not-orde
 
 pub returns-then-classes-total : goal.returns-then-classes-total
 returns-then-classes-total c = judge-classes _ _ _ c.ordered.ensures c.if-not-ordered.false c.total-total.ensures c.if-values-total.false c.if-classes-total.true
-
-pub legal-requires : goal.legal-requires
-legal-requires c = record { sound_description = (sym c.ordered.ensures ∙ c.if-not-ordered.false, c.requires); values_len = (c.if-values-total.false ∙ c.total-total.ensures, c.if-classes-total.false ∙ c.total-total.ensures) }
 
 pub returns-then-not-legal : goal.returns-then-not-legal
 returns-then-not-legal c = judge-illegal _ _ _ c.ordered.ensures c.if-not-ordered.false c.total-total.ensures c.if-values-total.false c.if-classes-total.false c.legal.ensures c.if-not-legal.true

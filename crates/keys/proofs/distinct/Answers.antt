@@ -6,35 +6,20 @@ use Rattle.keys.proofs.Notes.{kept_self, kept_then, all-kept, noted-none}
 use Rattle.keys.proofs.distinct.Goals as goal
 
 pub loop-i-init : goal.loop-i-init
-loop-i-init c = (omega arith, all_start _, noted-none _ _, kept_self _)
-
-pub fresh-requires : goal.fresh-requires
-fresh-requires c = let l = c.loop-i in record { rows_bound = (c.requires.0, c.requires.1, c.loop-i-test.true, l.invariant.3.long ∙ c.requires.2); firsts = (l.invariant.1, l.invariant.2) }
-
-pub shape_of-keys-then-not-fresh : goal.shape_of-keys-then-not-fresh
-shape_of-keys-then-not-fresh c = c.fresh.ensures.1.long ∙ c.loop-i.invariant.3.long
+loop-i-init c = (all_start _, noted-none _ _, kept_self _)
 
 pub returns-then-not-fresh : goal.returns-then-not-fresh
 returns-then-not-fresh c = let l = c.loop-i in
     let F = c.fresh.ensures in (
-      sym (all-fails _ _ _ F.0 c.if-not-fresh.true c.loop-i-test.true) ∙ all-kept _ _ l.invariant.3 _ _ c.requires.0,
-      kept_then _ _ _ l.invariant.3 F.1,
+      sym (all-fails _ _ _ F.0 c.if-not-fresh.true c.loop-i-test.true) ∙ all-kept _ _ l.invariant.2 _ _ c.requires.0,
+      kept_then _ _ _ l.invariant.2 F.1,
     )
-
-pub overflow_add-i : goal.overflow_add-i
-overflow_add-i c = omega arith
-
-pub loop-i-smaller : goal.loop-i-smaller
-loop-i-smaller c = omega arith
 
 pub loop-i-preserved : goal.loop-i-preserved
 loop-i-preserved c = let l = c.loop-i in
     let F = c.fresh.ensures in
     let h : c.args.from + (l.i + 1) ≤ 8192 = omega arith in
-    (omega arith, all-kept _ _ F.1 _ _ h ∙ all_more l.i _ l.invariant.1 F.0 c.if-not-fresh.false, F.2, kept_then _ _ _ l.invariant.3 F.1)
-
-pub shape_of-keys : goal.shape_of-keys
-shape_of-keys c = c.loop-i.invariant.3.long
+    (all-kept _ _ F.1 _ _ h ∙ all_more l.i _ l.invariant.0 F.0 c.if-not-fresh.false, F.2, kept_then _ _ _ l.invariant.2 F.1)
 
 pub returns : goal.returns
-returns c = let l = c.loop-i in (sym (all_end _ l.i _ l.invariant.1 l.invariant.0 c.loop-i-test.false) ∙ all-kept _ _ l.invariant.3 _ _ c.requires.0, l.invariant.3)
+returns c = let l = c.loop-i in (sym (all_end _ l.i _ l.invariant.0 l.auto.i-end c.loop-i-test.false) ∙ all-kept _ _ l.invariant.2 _ _ c.requires.0, l.invariant.2)

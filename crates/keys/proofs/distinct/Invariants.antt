@@ -1,4 +1,3 @@
-use Prim.Native.Nat.{◌-◌, ◌≤◌}
 use mathlib.Core.Bool.{true}
 use mathlib.Core.Path.{◌≡◌}
 use Rattle.bounded.specs.Bounded.{all_below}
@@ -7,8 +6,4 @@ use Rattle.keys.proofs.distinct.Given as goal
 
 abbrev pub invariant-loop-i : goal.invariant-loop-i
 invariant-loop-i l =
-    (l.i ≤ l.rows) × (all_below l.i (first_of l.keys l.from) ≡ true) × Noted l.keys l.from l.i × Kept l.initial.keys l.keys
-
-abbrev pub decreases-loop-i : goal.decreases-loop-i
-decreases-loop-i l =
-    l.rows - l.i
+    (all_below l.i (first_of l.keys l.from) ≡ true) × Noted l.keys l.from l.i × Kept l.initial.keys l.keys

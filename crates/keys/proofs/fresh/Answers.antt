@@ -1,28 +1,16 @@
 use Prim.Native.Nat.{◌+◌, ◌<◌}
-use mathlib.Core.Path.{refl}
-use lib.ListN.{get_or, length-set}
+use lib.ListN.{get_or}
 use native.Mathlib.Omega.{arith}
 use borrow.Author.Tests.{eq-eqb, ne_eqb}
 use Rattle.keys.specs.Facts.{first_of}
+use Rattle.keys.proofs.Sought.{sought-first}
 use Rattle.keys.proofs.Once.{once-of}
 use Rattle.keys.proofs.Notes.{slot-room, kept_self, noted_more, fresh-new}
 use Rattle.keys.proofs.fresh.Goals as goal
 
-pub overflow_add-key : goal.overflow_add-key
-overflow_add-key c = omega arith
-
-pub offset_bounds-keys-from : goal.offset_bounds-keys-from
-offset_bounds-keys-from c = omega arith
-
-pub bounds-keys-from : goal.bounds-keys-from
-bounds-keys-from c = omega arith
-
 pub returns-then-key-eq0 : goal.returns-then-key-eq0
 unfolding first_of
 returns-then-key-eq0 c = (rw (eq-eqb _ _ c.if-key-eq0.true), kept_self _, noted_more _ _ _ c.requires.firsts.1 (λ z. absurd (z c.if-key-eq0.true)))
-
-pub slot-place-requires : goal.slot-place-requires
-slot-place-requires c = omega arith
 
 pub offset_bounds-keys-place : goal.offset_bounds-keys-place
 offset_bounds-keys-place c = omega (arith, c.slot-place.ensures, (slot-room c.args.from (get_or c.args.keys.now (c.args.from + c.args.i) 0)).1)
@@ -30,20 +18,11 @@ offset_bounds-keys-place c = omega (arith, c.slot-place.ensures, (slot-room c.ar
 pub bounds-keys-place : goal.bounds-keys-place
 bounds-keys-place c = omega (arith, c.slot-place.ensures, (slot-room c.args.from (get_or c.args.keys.now (c.args.from + c.args.i) 0)).1)
 
-pub overflow_cast-keys : goal.overflow_cast-keys
-overflow_cast-keys c = omega arith
-
-pub overflow_add-keys : goal.overflow_add-keys
-overflow_add-keys c = omega arith
-
 pub offset_bounds-keys-place-then-keys-place-eq0 : goal.offset_bounds-keys-place-then-keys-place-eq0
 offset_bounds-keys-place-then-keys-place-eq0 c = omega (arith, c.slot-place.ensures, (slot-room c.args.from (get_or c.args.keys.now (c.args.from + c.args.i) 0)).1)
 
 pub bounds-keys-place-then-keys-place-eq0 : goal.bounds-keys-place-then-keys-place-eq0
 bounds-keys-place-then-keys-place-eq0 c = omega (arith, c.slot-place.ensures, (slot-room c.args.from (get_or c.args.keys.now (c.args.from + c.args.i) 0)).1)
-
-pub shape_of-keys-then-keys-place-eq0 : goal.shape_of-keys-then-keys-place-eq0
-shape_of-keys-then-keys-place-eq0 c = length-set c.args.keys.now c.slot-place.result (64 + c.args.i)
 
 pub returns-then-keys-place-eq0 : goal.returns-then-keys-place-eq0
 unfolding first_of
@@ -54,13 +33,10 @@ returns-then-keys-place-eq0 c = let e = c.slot-place.ensures in
 pub search-requires : goal.search-requires
 search-requires c = record { rows_in_bounds = (omega arith, omega arith); once = once-of _ _ _ _ c.requires.firsts.0 c.if-key-eq0.false }
 
-pub shape_of-keys : goal.shape_of-keys
-shape_of-keys c = refl
-
 pub returns : goal.returns
 unfolding first_of
 returns c = (
-  rw (ne_eqb _ _ c.if-key-eq0.false, ← c.search.ensures.0),
+  rw (ne_eqb _ _ c.if-key-eq0.false) (sought-first _ _ c.search.ensures c.is_none.ensures),
   kept_self _,
   noted_more _ _ _ c.requires.firsts.1 (λ _. rw c.slot-place.ensures at c.if-keys-place-eq0.false),
 )

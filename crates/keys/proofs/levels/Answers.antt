@@ -3,48 +3,24 @@ use mathlib.Core.Path.{sym, ◌∙◌}
 use native.Mathlib.Omega.{arith}
 use native.Mathlib.Nat.{mul-le-mul_right}
 use Rattle.bounded.specs.Bounded.{all_below}
-use Rattle.bounded.proofs.All.{all_start, all_more, all-fails, all_end}
+use Rattle.bounded.proofs.All.{all_start, all_more, all-fails}
 use Rattle.keys.specs.Facts.{first_of}
 use Rattle.keys.proofs.Notes.{kept_self, kept_then, all-kept}
 use Rattle.keys.proofs.levels.Goals as goal
 
 pub loop-l-init : goal.loop-l-init
-loop-l-init c = (omega arith, all_start _, kept_self _)
-
-pub overflow_mul-from : goal.overflow_mul-from
-overflow_mul-from c = omega (arith, mul-le-mul_right c.args.rows c.loop-l-test.true, c.requires.0)
-
-pub overflow_add-from : goal.overflow_add-from
-overflow_add-from c = omega (arith, mul-le-mul_right c.args.rows c.loop-l-test.true, c.requires.0)
-
-pub distinct-requires : goal.distinct-requires
-distinct-requires c = (omega (arith, mul-le-mul_right c.args.rows c.loop-l-test.true, c.requires.0), c.requires.1, c.loop-l.invariant.2.long ∙ c.requires.3)
-
-pub shape_of-keys-then-not-distinct : goal.shape_of-keys-then-not-distinct
-shape_of-keys-then-not-distinct c = c.distinct.ensures.1.long ∙ c.loop-l.invariant.2.long
+loop-l-init c = (all_start _, kept_self _)
 
 pub returns-then-not-distinct : goal.returns-then-not-distinct
 returns-then-not-distinct c = let l = c.loop-l in
     let F = c.distinct.ensures in
     let h : c.args.start + l.l * c.args.rows + c.args.rows ≤ 8192 = omega (arith, mul-le-mul_right c.args.rows c.loop-l-test.true, c.requires.0) in
-    let e = F.0 ∙ all-kept _ _ l.invariant.2 (c.args.start + l.l * c.args.rows) c.args.rows h in
-    (sym (all-fails _ _ (λ (m : ℕ). all_below c.args.rows (first_of c.args.keys.now (c.args.start + m * c.args.rows))) e c.if-not-distinct.true c.loop-l-test.true), kept_then _ _ _ l.invariant.2 F.1)
-
-pub overflow_add-l : goal.overflow_add-l
-overflow_add-l c = omega arith
-
-pub loop-l-smaller : goal.loop-l-smaller
-loop-l-smaller c = omega arith
+    let e = F.0 ∙ all-kept _ _ l.invariant.1 (c.args.start + l.l * c.args.rows) c.args.rows h in
+    (sym (all-fails _ _ (λ (m : ℕ). all_below c.args.rows (first_of c.args.keys.now (c.args.start + m * c.args.rows))) e c.if-not-distinct.true c.loop-l-test.true), kept_then _ _ _ l.invariant.1 F.1)
 
 pub loop-l-preserved : goal.loop-l-preserved
 loop-l-preserved c = let l = c.loop-l in
     let F = c.distinct.ensures in
     let h : c.args.start + l.l * c.args.rows + c.args.rows ≤ 8192 = omega (arith, mul-le-mul_right c.args.rows c.loop-l-test.true, c.requires.0) in
-    let e = F.0 ∙ all-kept _ _ l.invariant.2 (c.args.start + l.l * c.args.rows) c.args.rows h in
-    (omega arith, all_more l.l (λ (m : ℕ). all_below c.args.rows (first_of c.args.keys.now (c.args.start + m * c.args.rows))) l.invariant.1 e c.if-not-distinct.false, kept_then _ _ _ l.invariant.2 F.1)
-
-pub shape_of-keys : goal.shape_of-keys
-shape_of-keys c = c.loop-l.invariant.2.long
-
-pub returns : goal.returns
-returns c = let l = c.loop-l in (sym (all_end _ l.l (λ (m : ℕ). all_below c.args.rows (first_of c.args.keys.now (c.args.start + m * c.args.rows))) l.invariant.1 l.invariant.0 c.loop-l-test.false), l.invariant.2)
+    let e = F.0 ∙ all-kept _ _ l.invariant.1 (c.args.start + l.l * c.args.rows) c.args.rows h in
+    (all_more l.l (λ (m : ℕ). all_below c.args.rows (first_of c.args.keys.now (c.args.start + m * c.args.rows))) l.invariant.0 e c.if-not-distinct.false, kept_then _ _ _ l.invariant.1 F.1)

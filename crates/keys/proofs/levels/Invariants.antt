@@ -1,4 +1,4 @@
-use Prim.Native.Nat.{◌+◌, ◌*◌, ◌-◌, ◌≤◌}
+use Prim.Native.Nat.{◌+◌, ◌*◌}
 use mathlib.Core.Bool.{true}
 use mathlib.Core.Path.{◌≡◌}
 use Rattle.bounded.specs.Bounded.{all_below}
@@ -7,8 +7,4 @@ use Rattle.keys.proofs.levels.Given as goal
 
 abbrev pub invariant-loop-l : goal.invariant-loop-l
 invariant-loop-l l =
-    (l.l ≤ l.levels) × (all_below l.l (λ m. all_below l.rows (first_of l.initial.keys (l.start + m * l.rows))) ≡ true) × Kept l.initial.keys l.keys
-
-abbrev pub decreases-loop-l : goal.decreases-loop-l
-decreases-loop-l l =
-    l.levels - l.l
+    (all_below l.l (λ m. all_below l.rows (first_of l.initial.keys (l.start + m * l.rows))) ≡ true) × Kept l.initial.keys l.keys

@@ -1,4 +1,4 @@
-use Prim.Native.Nat.{suc, ◌+◌, ◌*◌, ◌-◌, ◌≤◌}
+use Prim.Native.Nat.{suc, ◌+◌, ◌*◌}
 use mathlib.Core.Bool.{true}
 use mathlib.Core.Path.{◌≡◌}
 use Rattle.bounded.specs.Bounded.{all_below}
@@ -8,8 +8,4 @@ use Rattle.keys.proofs.relations.Given as goal
 
 abbrev pub invariant-loop-r : goal.invariant-loop-r
 invariant-loop-r l =
-    (l.r ≤ l.n) × (all_below l.r (λ q. all_below l.d.levels (λ m. all_below (row_count l.d (suc q)) (first_of l.initial.keys (start_of l.d (suc q) + m * row_count l.d (suc q))))) ≡ true) × Kept l.initial.keys l.keys
-
-abbrev pub decreases-loop-r : goal.decreases-loop-r
-decreases-loop-r l =
-    l.n - l.r
+    (all_below l.r (λ q. all_below l.d.levels (λ m. all_below (row_count l.d (suc q)) (first_of l.initial.keys (start_of l.d (suc q) + m * row_count l.d (suc q))))) ≡ true) × Kept l.initial.keys l.keys

@@ -1,12 +1,8 @@
-use Prim.Native.Nat.{◌≤◌, ◌-◌}
+use Prim.Native.Nat.{◌≤◌}
 use Rattle.keys.specs.Facts.{has_key}
 use Rattle.keys.proofs.Sought.{Sought}
 use Rattle.keys.proofs.search.Given as goal
 
 abbrev pub invariant-loop-i : goal.invariant-loop-i
 invariant-loop-i l =
-    (l.i ≤ l.rows) × (l.found ≤ l.i) × Sought l.i (has_key l.keys l.from l.key) l.found
-
-abbrev pub decreases-loop-i : goal.decreases-loop-i
-decreases-loop-i l =
-    l.rows - l.i
+    (l.found ≤ l.i) × Sought l.i (has_key l.keys l.from l.key) l.found

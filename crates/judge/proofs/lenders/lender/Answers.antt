@@ -1,35 +1,36 @@
-use Prim.Native.Nat.{◌<◌}
 use native.Mathlib.Omega.{arith}
-use Rattle.judge.proofs.Places.{block, spot, spot-row, lender-absent, lender-other, lender-is}
+use mathlib.Core.Path.{sym, ◌∙◌}
+use Rattle.bounded.proofs.Found.{some-below, none-below}
+use Rattle.judge.proofs.Places.{spot, spot-row, lender-absent, lender-other, lender-is}
 use Rattle.judge.proofs.lenders.lender.Goals as goal
 
-pub overflow_mul-from : goal.overflow_mul-from
-overflow_mul-from c = omega (arith, block _ _ _ _ _ c.requires.ready c.args.level c.requires.asked.level)
-
-pub overflow_add-from : goal.overflow_add-from
-overflow_add-from c = omega (arith, block _ _ _ _ _ c.requires.ready c.args.level c.requires.asked.level)
-
-pub find-i-requires : goal.find-i-requires
-find-i-requires c = record { rows_bound = (block _ _ _ _ _ c.requires.ready c.args.level c.requires.asked.level, c.requires.ready.few, c.requires.ready.long); once = c.requires.ready.once _ _ c.requires.asked.level c.requires.asked.key }
-
-pub returns-then-i-rows : goal.returns-then-i-rows
-returns-then-i-rows c = (lender-absent _ _ _ _ _ c.requires.ready c.args.level c.args.key c.args.kc c.requires.asked.level c.find-i.ensures.0 c.if-i-rows.true, omega arith)
+pub returns-in_err-i : goal.returns-in_err-i
+returns-in_err-i c = let e = c.args.entity.now in
+    c.from_residual.ensures ∙ lender-absent _ _ _ _ _ e.row.relation.now.ready c.args.level e.key e.class c.requires (none-below _ _ c.in_err-i.ensures)
 
 pub at-p-requires : goal.at-p-requires
-at-p-requires c = let h : c.find-i.result < c.args.area.rows = omega arith in
-    (spot-row _ _ _ _ _ c.requires.ready c.args.level c.find-i.result c.requires.asked.level h, c.requires.ready.keyed)
+at-p-requires c = let e = c.args.entity.now in let R = e.row.relation.now.ready in
+    let f = some-below _ _ (sym c.in_ok-i.was ∙ c.find.ensures) in
+    (spot-row _ _ _ _ _ R c.args.level c.in_ok-i.i c.requires (rw (← f.0) at f.1), R.keyed)
 
-pub bounds-classes-p : goal.bounds-classes-p
-bounds-classes-p c = let f = c.find-i in
-    let h : f.result < c.args.area.rows = omega arith in
-    omega (arith, c.at-p.ensures, spot _ _ _ _ _ c.requires.ready c.args.level f.result 0 c.requires.asked.level h c.requires.ready.keyed, c.requires.ready.classes)
+pub bounds-relation-p : goal.bounds-relation-p
+bounds-relation-p c = let e = c.args.entity.now in let R = e.row.relation.now.ready in
+    let f = some-below _ _ (sym c.in_ok-i.was ∙ c.find.ensures) in
+    let near = spot _ _ _ _ _ R c.args.level c.in_ok-i.i 0 c.requires (rw (← f.0) at f.1) R.keyed in
+    omega (arith, c.at-p.ensures, near, R.classes)
 
-pub returns-then-classes-p : goal.returns-then-classes-p
-returns-then-classes-p c = let f = c.find-i in
-    let h : f.result < c.args.area.rows = omega arith in
-    (lender-other _ _ _ _ _ c.requires.ready c.args.level c.args.key c.args.kc c.requires.asked.level c.find-i.ensures.0 h c.at-p.ensures c.if-classes-p.true, omega arith)
+pub returns-then-relation-p : goal.returns-then-relation-p
+returns-then-relation-p c = let e = c.args.entity.now in let R = e.row.relation.now.ready in
+    let f = some-below _ _ (sym c.in_ok-i.was ∙ c.find.ensures) in
+    lender-other _ _ _ _ _ R c.args.level e.key e.class c.requires f.0 (rw (← f.0) at f.1) c.at-p.ensures c.if-relation-p.true
+
+pub overflow_cast-result : goal.overflow_cast-result
+overflow_cast-result c = let e = c.args.entity.now in let R = e.row.relation.now.ready in
+    let f = some-below _ _ (sym c.in_ok-i.was ∙ c.find.ensures) in
+    let near = spot-row _ _ _ _ _ R c.args.level c.in_ok-i.i c.requires (rw (← f.0) at f.1) in
+    omega (arith, c.at-p.ensures, near)
 
 pub returns : goal.returns
-returns c = let f = c.find-i in
-    let h : f.result < c.args.area.rows = omega arith in
-    (lender-is _ _ _ _ _ c.requires.ready c.args.level c.args.key c.args.kc c.requires.asked.level c.find-i.ensures.0 h c.at-p.ensures c.if-classes-p.false, omega (arith, c.at-p.ensures, spot-row _ _ _ _ _ c.requires.ready c.args.level f.result c.requires.asked.level h))
+returns c = let e = c.args.entity.now in let R = e.row.relation.now.ready in
+    let f = some-below _ _ (sym c.in_ok-i.was ∙ c.find.ensures) in
+    lender-is _ _ _ _ _ R c.args.level e.key e.class c.requires f.0 (rw (← f.0) at f.1) c.at-p.ensures c.if-relation-p.false

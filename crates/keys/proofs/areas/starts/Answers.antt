@@ -12,38 +12,22 @@ use Rattle.keys.proofs.Starts.{starts_none, noughts}
 use Rattle.keys.proofs.areas.starts.Goals as goal
 
 pub loop-r-init : goal.loop-r-init
-loop-r-init c = (omega arith, sum-start _, omega arith, refl, starts_none _ (replicate 9 0) refl refl, λ k h. noughts 9 k)
+loop-r-init c = (sum-start _, omega arith, refl, starts_none _ (replicate 9 0) refl refl, λ k h. noughts 9 k)
 
 pub size-sum-requires : goal.size-sum-requires
-size-sum-requires c = omega (arith, c.wide-n.ensures, (sound-says _ c.requires).few-relations)
-
-pub overflow_add-sum : goal.overflow_add-sum
-overflow_add-sum c = omega (arith, c.size-sum.ensures.0, size-le _ c.requires c.loop-r.r, c.wide-n.ensures, (sound-says _ c.requires).few-relations)
-
-pub overflow_add-r : goal.overflow_add-r
-overflow_add-r c = omega (arith, c.wide-n.ensures, (sound-says _ c.requires).few-relations)
-
-pub offset_bounds-starts-r : goal.offset_bounds-starts-r
-offset_bounds-starts-r c = omega (arith, c.wide-n.ensures, (sound-says _ c.requires).few-relations)
+size-sum-requires c = omega (arith, (sound-says _ c.requires).few-relations, c.from-r-end.ensures)
 
 pub bounds-starts-r : goal.bounds-starts-r
-bounds-starts-r c = omega (arith, c.wide-n.ensures, (sound-says _ c.requires).few-relations, c.loop-r.invariant.3)
-
-pub loop-r-smaller : goal.loop-r-smaller
-loop-r-smaller c = omega arith
+bounds-starts-r c = omega (arith, (sound-says _ c.requires).few-relations, c.from-r-end.ensures, c.loop-r.invariant.2)
 
 pub loop-r-preserved : goal.loop-r-preserved
 unfolding start_of
 loop-r-preserved c = let l = c.loop-r in
-    let e = sum_more l.r (size_of c.args.d) l.invariant.1 c.size-sum.ensures.0 in
-    let h : l.r + 1 < length l.starts = omega (arith, c.wide-n.ensures, (sound-says _ c.requires).few-relations, l.invariant.3) in (
-      omega arith,
+    let e = sum_more l.r (size_of c.args.d) l.invariant.0 c.size-sum.ensures.0 in
+    let h : l.r + 1 < length l.starts = omega (arith, (sound-says _ c.requires).few-relations, c.from-r-end.ensures, l.invariant.2) in (
       e,
       omega (arith, c.size-sum.ensures.0, size-le _ c.requires l.r),
-      simp length-set l.invariant.3,
-      each_more (λ k x. x ≡ start_of c.args.d k) (l.r + 1) l.starts _ h e l.invariant.4,
-      λ k g. get_or-set_other l.starts (l.r + 1) k _ 0 (omega arith) ∙ l.invariant.5 k (omega arith),
+      simp length-set l.invariant.2,
+      each_more (λ k x. x ≡ start_of c.args.d k) (l.r + 1) l.starts _ h e l.invariant.3,
+      λ k g. get_or-set_other l.starts (l.r + 1) k _ 0 (omega arith) ∙ l.invariant.4 k (omega arith),
     )
-
-pub returns : goal.returns
-returns c = let l = c.loop-r in record { long = l.invariant.3; right = λ r h. l.invariant.4 r (omega (arith, c.wide-n.ensures)); rest = λ r h. l.invariant.5 r (omega (arith, c.wide-n.ensures)) }

@@ -1,11 +1,11 @@
-use Rattle.keys.proofs.Sets.{range-low, range-high, range-of}
+use mathlib.Core.Path.{ap, ◌∙◌}
+use native.Mathlib.Nat.{le_refl}
+use Rattle.std.specs.Prelude.{ℕ, Option, unwrap_or}
+use Rattle.keys.proofs.Sets.{range-of}
 use Rattle.keys.proofs.words.range.Goals as goal
 
-pub returns-then-low-ge16 : goal.returns-then-low-ge16
-returns-then-low-ge16 c = range-low _ _ _ c.requires.0 c.if-low-ge16.true
-
-pub returns-then-high-ge16 : goal.returns-then-high-ge16
-returns-then-high-ge16 c = range-high _ _ _ c.requires.0 c.if-high-ge16.true
-
 pub returns : goal.returns
-returns c = range-of _ _ _ c.requires.0 _ _ c.requires.1 c.if-low-ge16.false c.if-high-ge16.false
+returns c =
+    let high = c.unwrap_or.ensures ∙ ap (λ (x : Option ℕ). unwrap_or x 0) c.copied.ensures ∙ c.get.ensures.lookup.4 (le_refl _) 0 in
+    let low = c.unwrap_or-2.ensures ∙ ap (λ (x : Option ℕ). unwrap_or x 0) c.copied-2.ensures ∙ c.get-2.ensures.lookup.4 (le_refl _) 0 in
+    rw (high, low) (range-of _ c.requires.0 _ _ c.requires.1 _ _)
