@@ -1,23 +1,27 @@
 -- The tests of a description: one law for each way through the code.
 -- Assumes nothing.
-use mathlib.Core.Path.{◌≡◌, sym, ap, ◌∙◌}
-use mathlib.Core.Bool.{Bool, true, false, ◌&&◌}
-use mathlib.Core.Logic.{◌≢◌}
+use mathlib.Core.Path.{◌≡◌, refl, sym, ◌∙◌}
+use mathlib.Core.Bool.{Bool, true, false, not, ◌&&◌, ◌||◌}
 use mathlib.Core.List.{List}
-use Prim.Native.Nat.{ℕ, suc, ◌+◌, ◌*◌, ◌≤◌}
+use Prim.Native.Nat.{ℕ, zero, suc, ◌+◌, ◌*◌, ◌≤◌, ◌<◌}
 use native.Mathlib.Numerals.{add-one}
 use native.Mathlib.Omega.{arith}
-use lib.Dec.{eqb, ltb, leb}
-use lib.ListN.{get_or}
+use lib.Dec.{eqb, ltb}
+use lib.ListN.{length, take, get_or}
+use Rattle.std.specs.List.{list_any, list_all}
+use Rattle.std.proofs.lemmas.List.Folds.{list_any_more, list_all_more}
+use lib.Seq.{length-take-le, get_or-take}
 use borrow.Author.Tests.{ne_eqb, lt-ltb}
+use Rattle.std.proofs.lemmas.Bool.Decides.{nat_tests}
+use Rattle.bounded.proofs.All.{all-cong}
 use Rattle.bounded.specs.Bounded.{all_below}
 use Rattle.bounded.proofs.Reflection.{of-true}
 use Rattle.level.specs.Order.{order_of, entry_of}
 use Rattle.level.proofs.Levels.{order-laws}
 use Rattle.model.specs.declared.Description.{Description}
-use Rattle.model.specs.Description.{between, over, column_count, row_count, foreign_of, refers_of, low_of, high_of, total_of, labels_sound, foreign_sound, relation_sound, sound}
+use Rattle.model.specs.Description.{between, over, column_count, low_of, high_of, distinct_below, foreign_sound, relation_sound}
 use Rattle.model.proofs.Sound.{between-r}
-use Rattle.describe.specs.Facts.{Described}
+use Rattle.describe.specs.Facts.{Described, ranges_sound}
 use Rattle.describe.proofs.Sizes.{row_count_lem, column-count, foreign-of, refers-of}
 
 -- an entry of the order
@@ -25,110 +29,69 @@ pub over-entry : (d : Description) (order : List (List Bool)) → order ≡ orde
 unfolding over
 over-entry d order e h a b = rw e ((order-laws d.labels d.levels).entries h a b)
 
-pub between-says : (low high n : ℕ) {m : ℕ} {b : Bool} → m ≡ n → b ≡ between low high m → b ≡ true → (low ≤ n) × (n ≤ high)
-between-says low high n e x t = of-true (between-r low high n) (ap (between low high) (sym e) ∙ sym x ∙ t)
+pub between-says : (low high n : ℕ) {b : Bool} → b ≡ between low high n → b ≡ true → (low ≤ n) × (n ≤ high)
+between-says low high n x t = of-true (between-r low high n) (sym x ∙ t)
 
--- ---- the ranges and the foreign key of a relation
+-- ---- the labels, as a slice of so many
+
+pub all-of-first : (p : ℕ → Bool) (xs : List ℕ) (n : ℕ) → n ≤ length xs → list_all p (take n xs) ≡ all_below n (λ k. p (get_or xs k 0))
+unfolding all_below
+all-of-first p xs zero h = refl
+all-of-first p xs (suc n) h =
+    let i : list_all p (take n xs) ≡ all_below n (λ k. p (get_or xs k 0)) = all-of-first p xs n (omega arith) in
+    rw (← (add-one n), list_all_more p xs n 0 (omega arith), i)
+
+not-or : (a b : Bool) → not (a || b) ≡ (not a && not b)
+not-or true b = refl
+not-or false b = refl
+
+eqb-turned : (a b : ℕ) → eqb a b ≡ eqb b a
+eqb-turned a b = grind (arith, nat_tests)
+
+-- whether one of the first n is a number, and whether each is another
+pub none-of-first : (x : ℕ) (xs : List ℕ) (n : ℕ) → n ≤ length xs → not (list_any (λ y. eqb y x) (take n xs)) ≡ all_below n (λ k. not (eqb x (get_or xs k 0)))
+unfolding all_below
+none-of-first x xs zero h = refl
+none-of-first x xs (suc n) h =
+    let i : not (list_any (λ y. eqb y x) (take n xs)) ≡ all_below n (λ k. not (eqb x (get_or xs k 0))) = none-of-first x xs n (omega arith) in
+    rw (← (add-one n), list_any_more (λ y. eqb y x) xs n 0 (omega arith), not-or, i, eqb-turned x (get_or xs n 0))
+
+pub distinct-of-first : (xs : List ℕ) (n : ℕ) → n ≤ length xs → distinct_below (length (take n xs)) (λ k. get_or (take n xs) k 0) ≡ distinct_below n (λ k. get_or xs k 0)
+unfolding distinct_below
+distinct-of-first xs n h =
+    rw (length-take-le n xs h)
+    (all-cong n _ _ (λ i k. all-cong i _ _ (λ j l. let m : j < n = omega arith in rw (get_or-take n xs i 0 k, get_or-take n xs j 0 m))))
+
+-- ---- the numbers of a relation
+
+above : (n : ℕ) → ltb 0 n ≡ not (eqb n 0)
+above zero = refl
+above (suc n) = rw (lt-ltb 0 (suc n) (omega arith), ne_eqb (suc n) 0 (λ e. omega arith))
 
 module _ (d : Description) (o : List (List Bool)) (r : ℕ) (D : Described d o r) where
-  pub ranged-at : (q k : ℕ) → q ≡ 9 * r + 1 → {h l : ℕ} {b : Bool} → h ≡ get_or d.high (q + k) 0 → l ≡ get_or d.low (q + k) 0 → b ≡ entry_of o h l
+  pub ranged-at : (q k : ℕ) → q ≡ 9 * r + 1 → {b : Bool} → b ≡ entry_of o (get_or d.high (q + k) 0) (get_or d.low (q + k) 0)
       → b ≡ over d (high_of d r (suc k)) (low_of d r (suc k))
   unfolding high_of low_of
-  ranged-at q k e {h} {l} x y z =
+  ranged-at q k e z =
       let p : q + k ≡ 9 * r + suc k = omega arith in
-      z ∙ over-entry d o D.order_is D.levels h l ∙ rw (x, y, p)
+      z ∙ over-entry d o D.order_is D.levels (get_or d.high (q + k) 0) (get_or d.low (q + k) 0) ∙ rw p
 
-  module _ {f : ℕ} (x : f ≡ get_or d.foreign r 0) where
-    foreign-is : foreign_of d r ≡ f
-    foreign-is = sym (x ∙ foreign-of d r D.least D.relation)
+  pub columns-are : get_or d.columns r 0 ≡ column_count d r
+  columns-are = column-count d r D.least D.relation
 
-    pub foreign-none : {t : ℕ} → t ≡ get_or d.refers r 0 → f ≡ 0 → eqb t 0 ≡ foreign_sound d r
-    unfolding foreign_sound
-    foreign-none y z = rw (foreign-is, z, ← (refers-of d r D.least D.relation), y)
+  pub few-columns : {b : Bool} → b ≡ between 1 8 (get_or d.columns r 0) → b ≡ true → column_count d r ≤ 8
+  few-columns z t = rw (← columns-are) (between-says 1 8 (get_or d.columns r 0) z t).1
 
-    module _ {m : ℕ} {b : Bool} (n : f ≢ 0) (y : m ≡ get_or d.columns r 0) (z : b ≡ between 2 m f) where
-      foreign-as : foreign_sound d r ≡ (b && (ltb 0 (refers_of d r) && ltb (refers_of d r) r))
-      unfolding foreign_sound
-      foreign-as = rw (foreign-is, ne_eqb f 0 n, ← (column-count d r D.least D.relation), ← y, z)
+  pub foreign-none : get_or d.foreign r 0 ≡ 0 → eqb (get_or d.refers r 0) 0 ≡ foreign_sound d r
+  unfolding foreign_sound
+  foreign-none z = rw (← (foreign-of d r D.least D.relation), z, refers-of d r D.least D.relation)
 
-      pub foreign-out : b ≡ false → false ≡ foreign_sound d r
-      foreign-out e = sym (foreign-as ∙ rw e)
+  pub foreign-as : (get_or d.foreign r 0 ≡ 0 → ⊥) → foreign_sound d r ≡ (between 2 (get_or d.columns r 0) (get_or d.foreign r 0) && (not (eqb (get_or d.refers r 0) 0) && ltb (get_or d.refers r 0) r))
+  unfolding foreign_sound
+  foreign-as n =
+      rw (← (foreign-of d r D.least D.relation), ← (refers-of d r D.least D.relation), ← columns-are, ne_eqb (get_or d.foreign r 0) 0 n, above (get_or d.refers r 0))
 
-      module _ {t : ℕ} (u : t ≡ get_or d.refers r 0) (e : b ≡ true) where
-        refers-is : refers_of d r ≡ t
-        refers-is = sym (u ∙ refers-of d r D.least D.relation)
-
-        pub foreign-zero : t ≡ 0 → false ≡ foreign_sound d r
-        foreign-zero w = sym (foreign-as ∙ rw (e, refers-is, w))
-
-        pub foreign-some : t ≢ 0 → ltb t r ≡ foreign_sound d r
-        foreign-some w = sym (foreign-as ∙ rw (e, refers-is, lt-ltb 0 t (omega arith)))
-
--- ---- a relation
-
-module _ (d : Description) (o : List (List Bool)) (r : ℕ) (D : Described d o r) {m n : ℕ} {a : Bool} (x : m ≡ get_or d.columns r 0) (y : n ≡ get_or d.rows r 0) (z : a ≡ between 1 8 m) where
-  columns-are : column_count d r ≡ m
-  columns-are = sym (x ∙ column-count d r D.least D.relation)
-
-  rows_are : row_count d r ≡ n
-  rows_are = sym (y ∙ row_count_lem d r D.least D.relation)
-
-  pub relation-few : a ≡ true → column_count d r ≤ 8
-  relation-few t = (between-says 1 8 (column_count d r) (sym columns-are) z t).1
-
-  pub relation-cols : a ≡ false → false ≡ relation_sound d r
+  pub relation-as : relation_sound d r ≡ (between 1 8 (get_or d.columns r 0) && (between 1 64 (get_or d.rows r 0)
+      && (ranges_sound d r && foreign_sound d r)))
   unfolding relation_sound
-  relation-cols t = rw (columns-are, ← z, t)
-
-  module _ (t : a ≡ true) {b : Bool} (u : b ≡ between 1 64 n) where
-    pub relation-rows : b ≡ false → false ≡ relation_sound d r
-    unfolding relation_sound
-    relation-rows e = rw (columns-are, ← z, t, rows_are, ← u, e)
-
-    module _ (e : b ≡ true) {g : Bool} (w : g ≡ all_below (column_count d r) (λ k. over d (high_of d r (suc k)) (low_of d r (suc k)))) where
-      relation-as : relation_sound d r ≡ (g && foreign_sound d r)
-      unfolding relation_sound
-      relation-as = rw (← w, columns-are, ← z, t, rows_are, ← u, e)
-
-      pub relation-ranges : g ≡ false → false ≡ relation_sound d r
-      relation-ranges q = sym (relation-as ∙ rw q)
-
-      pub relation-foreign : g ≡ true → {f : Bool} → f ≡ foreign_sound d r → f ≡ relation_sound d r
-      relation-foreign q p = p ∙ sym (relation-as ∙ rw q)
-
-pub relation-at : (d : Description) (r : ℕ) {b : Bool} → b ≡ relation_sound d (r + 1) → b ≡ relation_sound d (suc r)
-relation-at d r e = rw (← (add-one r)) e
-
--- ---- the whole
-
-module _ (d : Description) {m : ℕ} {a : Bool} (x : m ≡ d.levels) (z : a ≡ between 1 16 m) where
-  levels-are : between 1 16 d.levels ≡ a
-  levels-are = sym (z ∙ ap (between 1 16) x)
-
-  pub sound-levels : a ≡ false → false ≡ sound d
-  unfolding sound
-  sound-levels t = rw (levels-are, t)
-
-  module _ (t : a ≡ true) {b : Bool} (u : b ≡ labels_sound d) where
-    pub sound-labels : b ≡ false → false ≡ sound d
-    unfolding sound
-    sound-labels e = rw (levels-are, t, ← u, e)
-
-    module _ (e : b ≡ true) {n : ℕ} {f : Bool} (y : n ≡ d.relations) (w : f ≡ between 1 8 n) where
-      relations-are : between 1 8 d.relations ≡ f
-      relations-are = sym (w ∙ ap (between 1 8) y)
-
-      pub sound-relations : f ≡ false → false ≡ sound d
-      unfolding sound
-      sound-relations q = rw (levels-are, t, ← u, e, relations-are, q)
-
-      module _ (q : f ≡ true) {g : Bool} (v : g ≡ all_below d.relations (λ r. relation_sound d (suc r))) where
-        sound-as : sound d ≡ (g && leb (total_of d) 8192)
-        unfolding sound
-        sound-as = rw (levels-are, t, ← u, e, relations-are, q, ← v)
-
-        pub sound-each : g ≡ false → false ≡ sound d
-        sound-each p = sym (sound-as ∙ rw p)
-
-        pub sound-total : g ≡ true → {k : ℕ} → k ≡ total_of d → leb k 8192 ≡ sound d
-        sound-total p s = sym (sound-as ∙ rw (p, s))
+  relation-as = rw (columns-are, row_count_lem d r D.least D.relation)

@@ -27,10 +27,8 @@ sum-behind f n (suc m) h z =
     (λ l. absurd (omega arith))
 
 -- three numbers of 16 bits
-pub small : {l n m : ℕ} → l < 65536 → n < 65536 → m < 65536 → (l * n ≤ 65535 * 65535) × (l * n * m ≤ 65535 * 65535 * 65535)
-small x y z =
-    let h = mul-le-mul (le_of_suc-le-suc x) (le_of_suc-le-suc y) in
-    (h, mul-le-mul h (le_of_suc-le-suc z))
+pub small : {l n m : ℕ} → l < 65536 → n < 65536 → m < 65536 → l * n * m ≤ 65535 * 65535 * 65535
+small x y z = mul-le-mul (mul-le-mul (le_of_suc-le-suc x) (le_of_suc-le-suc y)) (le_of_suc-le-suc z)
 
 module _ (d : Description) where
   pub of-relation : (numbers : List ℕ) (q : ℕ) → 0 < q → q ≤ d.relations → get_or numbers q 0 ≡ of_relation d numbers q

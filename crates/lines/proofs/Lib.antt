@@ -1,5 +1,4 @@
 pub mod Decimals
-pub mod Places
 pub mod Settled
 pub mod Worked
 pub mod Writing

@@ -2,71 +2,68 @@
 -- Assumes nothing.
 use mathlib.Core.Path.{◌≡◌, refl, sym, ◌∙◌}
 use mathlib.Core.List.{List, [], ◌∷◌, ◌++◌}
-use Prim.Native.Nat.{ℕ, suc, ◌+◌, ◌/◌, ◌%◌, ◌≤◌, ◌<◌, ◌^◌}
+use Prim.Native.Nat.{ℕ, suc, ◌+◌, ◌*◌, ◌/◌, ◌%◌, ◌≤◌, ◌<◌, ◌^◌}
 use native.Mathlib.Nat.{add-zero}
 use native.Mathlib.Omega.{arith}
-use borrow.Author.Tests.{eq-eqb, ne_eqb}
 use lib.ListN.{length, set, length-append}
 use lib.Seq.{set_out}
 use Rattle.bounded.specs.Lists.{concat_below}
 use Rattle.bounded.proofs.Lists.{concat-more}
-use Rattle.bounded.proofs.Cases.{at-end}
 use Rattle.lines.proofs.Decimals.{decimal-one, decimal-more, decimal-short}
 use Rattle.lines.specs.Text.{digit, decimal}
-use Rattle.lines.specs.Lines.{dash, class_text}
 use Rattle.lines.specs.Written.{written, Wrote}
-
--- ---- one byte
-
-pub wrote-in : (at byte : ℕ) (b : List ℕ) → Wrote at (byte ∷ []) b (set b at byte) (at + 1)
-unfolding written
-wrote-in at byte b = record { is = refl; next-is = omega arith }
-
-pub wrote-out : (at byte : ℕ) (b : List ℕ) → length b ≤ at → Wrote at (byte ∷ []) b b (at + 1)
-unfolding written
-wrote-out at byte b h = record { is = sym (set_out b at byte h); next-is = omega arith }
+use Rattle.lines.specs.Writes.{Writes}
+use Rattle.lines.specs.declared.writer.Writer.{Writer}
 
 -- ---- a text behind a text
 
-pub written-append : (at : ℕ) (s t b : List ℕ) → written at (s ++ t) b ≡ written (at + length s) t (written at s b)
+written-append : (at : ℕ) (s t b : List ℕ) → written at (s ++ t) b ≡ written (at + length s) t (written at s b)
 unfolding written
 written-append at [] t b = rw add-zero
 written-append at (byte ∷ s) t b =
     let e : at + length (byte ∷ s) ≡ suc at + length s = omega arith in
     rw e (written-append (suc at) s t (set b at byte))
 
-pub wrote_on : {at n m : ℕ} {s t b c d : List ℕ} → Wrote at s b c n → Wrote n t c d m → Wrote at (s ++ t) b d m
+wrote_on : {at n m : ℕ} {s t b c d : List ℕ} → Wrote at s b c n → Wrote n t c d m → Wrote at (s ++ t) b d m
 wrote_on {at} {n} {m} {s} {t} {b} {c} {d} p q =
     record { is = q.is ∙ rw (p.next-is, p.is) (sym (written-append at s t b)); next-is = q.next-is ∙ rw p.next-is (omega (arith, length-append s t)) }
 
+-- ---- what a writer writes
+
+pub writes_on : {n m : ℕ} {s t : List ℕ} {a b c : Writer} → Writes n s a b → Writes m t b c → Writes (n + m) (s ++ t) a c
+writes_on p q =
+    record { same = q.same ∙ p.same; wrote = wrote_on p.wrote q.wrote; near = omega (arith, p.near, q.near) }
+
+pub writes-within : (n : ℕ) {m : ℕ} {t : List ℕ} {a b : Writer} → m ≤ n → Writes m t a b → Writes n t a b
+writes-within n h p = record { same = p.same; wrote = p.wrote; near = omega (arith, p.near) }
+
+-- one byte, where the buffer has the place and where it doesn't
+pub writes-in : (byte : ℕ) (a : Writer) → Writes 1 (byte ∷ []) a (record a { text = record a.text { now = set a.text.now a.at byte }; at = a.at + 1 })
+unfolding written
+writes-in byte a = record { same = refl; wrote = record { is = refl; next-is = omega arith }; near = omega arith }
+
+pub writes-out : (byte : ℕ) (a : Writer) → length a.text.now ≤ a.at → Writes 1 (byte ∷ []) a (record a { at = a.at + 1 })
+unfolding written
+writes-out byte a h =
+    record { same = refl; wrote = record { is = sym (set_out a.text.now a.at byte h); next-is = omega arith }; near = omega arith }
+
 -- ---- a number
 
-pub wrote_one : (n : ℕ) {at x r : ℕ} {b c : List ℕ} → n < 10 → x ≡ digit n → Wrote at (x ∷ []) b c r → Wrote at (decimal n) b c r × (r ≤ at + 20)
-wrote_one n h e p = (rw (decimal-one n h, ← e) p, omega (arith, p.next-is))
+pub writes-one : (n : ℕ) {x : ℕ} {a b : Writer} → n < 10 → x ≡ digit (n % 10) → Writes 1 (x ∷ []) a b → Writes 20 (decimal n) a b
+writes-one n h e p =
+    let m : n % 10 ≡ n = omega arith in
+    rw (decimal-one n h, ← (rw m at e)) (writes-within 20 (omega arith) p)
 
-pub wrote-digit : (n : ℕ) {at m x r : ℕ} {b c d : List ℕ} → 10 ≤ n → n < 2 ^ 64 → Wrote at (decimal (n / 10)) b c m → x ≡ digit (n % 10) → Wrote m (x ∷ []) c d r → Wrote at (decimal n) b d r × (r ≤ at + 20)
-wrote-digit n {at} {m} {x} {r} {b} {c} {d} h k p e q =
-    let w : Wrote at (decimal n) b d r = rw (decimal-more n h, ← e) (wrote_on p q) in
-    (w, omega (arith, w.next-is, decimal-short n k))
-
--- ---- a class
-
-pub wrote-null : (class : ℕ) {at r : ℕ} {b c : List ℕ} → class ≡ 255 → Wrote at (dash ∷ []) b c r → Wrote at (class_text class) b c r
-unfolding class_text
-wrote-null class e p = rw (eq-eqb class 255 e) p
-
-pub wrote-level : (class : ℕ) {at r : ℕ} {b c : List ℕ} → (class ≡ 255 → ⊥) → Wrote at (decimal class) b c r → Wrote at (class_text class) b c r
-unfolding class_text
-wrote-level class n p = rw (ne_eqb class 255 n) p
+pub writes-digit : (n : ℕ) {x : ℕ} {a b c : Writer} → 10 ≤ n → n < 2 ^ 64 → Writes 20 (decimal (n / 10)) a b → x ≡ digit (n % 10) → Writes 1 (x ∷ []) b c → Writes 20 (decimal n) a c
+writes-digit n {x} {a} {b} {c} h k p e q =
+    let w : Writes 21 (decimal n) a c = rw (decimal-more n h, ← e) (writes_on p q) in
+    record { same = w.same; wrote = w.wrote; near = omega (arith, w.wrote.next-is, decimal-short n k) }
 
 -- ---- texts one after the other
 
-pub wrote_none : (at : ℕ) (g : ℕ → List ℕ) (b : List ℕ) → Wrote at (concat_below 0 g) b b at
+pub writes-none : (g : ℕ → List ℕ) (a : Writer) → Writes 0 (concat_below 0 g) a a
 unfolding written concat_below
-wrote_none at g b = record { is = refl; next-is = omega arith }
+writes-none g a = record { same = refl; wrote = record { is = refl; next-is = omega arith }; near = omega arith }
 
-pub wrote-more : (k : ℕ) (g : ℕ → List ℕ) {at n m : ℕ} {b c d : List ℕ} → Wrote at (concat_below k g) b c n → Wrote n (g k) c d m → Wrote at (concat_below (k + 1) g) b d m
-wrote-more k g p q = rw concat-more (wrote_on p q)
-
-pub wrote-end : (k l : ℕ) (g : ℕ → List ℕ) {at n : ℕ} {b c : List ℕ} → Wrote at (concat_below l g) b c n → l ≤ k → k ≤ l → Wrote at (concat_below k g) b c n
-wrote-end k l g {at} {n} {b} {c} p h i = at-end (λ j. Wrote at (concat_below j g) b c n) h i p
+pub writes-more : (k n : ℕ) (g : ℕ → List ℕ) {a b c : Writer} → Writes (n * k) (concat_below k g) a b → Writes n (g k) b c → Writes (n * (k + 1)) (concat_below (k + 1) g) a c
+writes-more k n g p q = rw concat-more (writes-within (n * (k + 1)) (omega arith) (writes_on p q))

@@ -1,6 +1,5 @@
 -- The lines that are printed (01, "mlrun"), in ASCII bytes.
 -- Assumes nothing: these are definitions.
-use Rattle.std.specs.Prelude.{Ok, Err}
 use Rattle.model.specs.Answers.{Answer}
 use Rattle.std.specs.Prelude.{ℕ, ◌+◌, ◌*◌, List, [], ◌∷◌, ◌++◌, eqb, get_or, if◌then◌else◌}
 use Rattle.bounded.specs.Lists.{concat_below}

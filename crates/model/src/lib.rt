@@ -43,7 +43,7 @@ pub struct Statement {
 // Why a call is refused: 01's numbers 1 to 14, in their order.
 #[derive(Clone, Copy)]
 pub enum Fault {
-    Description,
+    Description = 1,
     Length,
     Illegal,
     Malformed,

@@ -10,52 +10,29 @@ use model::{Answer, Fault, Verdict};
 fn fault(fault: Fault) -> u32
     ensures { result ≡ fault_number fault }
 {
-    match fault {
-        Fault::Description => 1,
-        Fault::Length => 2,
-        Fault::Illegal => 3,
-        Fault::Malformed => 4,
-        Fault::Unseen => 5,
-        Fault::Range => 6,
-        Fault::Absent => 7,
-        Fault::Several => 8,
-        Fault::Taken => 9,
-        Fault::KeyClass => 10,
-        Fault::Reference => 11,
-        Fault::Referred => 12,
-        Fault::Full => 13,
-        Fault::Short => 14,
-    }
+    fault as u32
 }
 
 // The number of an answer: 0 for done, else the fault's.
+#[tactic(auto, unfolding(model::specs::Numbers::answer_number))]
 pub fn number(answer: Answer) -> u32
     ensures { result ≡ answer_number answer }
 {
-    match answer {
-        Answer::Done { count: _ } => 0,
-        Answer::Refused(why) => fault(why),
-    }
+    answer.err().map_or(0, fault)
 }
 
 // The count of an answer: 0 for a refusal.
+#[tactic(auto, unfolding(model::specs::Numbers::count_of))]
 pub fn count(answer: Answer) -> u32
     ensures { result ≡ count_of answer }
 {
-    match answer {
-        Answer::Done { count } => count,
-        Answer::Refused(_) => 0,
-    }
+    answer.unwrap_or(0)
 }
 
-// The number of a verdict: 0 for legal.
+// The number of a verdict: 0 for legal. It stays beside `number`: one generic function under both would be no plainer than the line that it holds.
+#[tactic(auto, unfolding(model::specs::Numbers::verdict_number))]
 pub fn verdict(verdict: Verdict) -> u32
     ensures { result ≡ verdict_number verdict }
 {
-    match verdict {
-        Verdict::Legal => 0,
-        Verdict::Description => 1,
-        Verdict::Length => 2,
-        Verdict::Illegal => 3,
-    }
+    verdict.err().map_or(0, fault)
 }

@@ -2,10 +2,10 @@ use borrow.Author.Tests.{le-leb, lt-leb}
 use Rattle.model.specs.Description.{between}
 use Rattle.describe.proofs.between.Goals as goal
 
-pub returns-then-n-low : goal.returns-then-n-low
+pub returns-then-low-n : goal.returns-then-low-n
 unfolding between
-returns-then-n-low c = rw (lt-leb _ _ c.if-n-low.true)
+returns-then-low-n c = rw (le-leb _ _ c.if-low-n.true)
 
-pub returns : goal.returns
+pub returns-else-low-n : goal.returns-else-low-n
 unfolding between
-returns c = rw (le-leb _ _ c.if-n-low.false)
+returns-else-low-n c = rw (lt-leb _ _ c.if-low-n.false)

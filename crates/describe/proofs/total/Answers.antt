@@ -1,4 +1,7 @@
+use mathlib.Core.Path.{◌≡◌}
 use native.Mathlib.Omega.{arith}
+use lib.ListN.{length}
+use borrow.Author.Rules.{rules}
 use Rattle.bounded.proofs.Sum.{sum-start, sum_more, sum-end}
 use Rattle.describe.proofs.Sizes.{total-nine}
 use Rattle.describe.proofs.total.Goals as goal
@@ -6,20 +9,11 @@ use Rattle.describe.proofs.total.Goals as goal
 -- The invariant: what was added up is the size of the relations before.
 
 pub loop-r-init : goal.loop-r-init
-loop-r-init c = (omega arith, sum-start _, omega arith)
-
-pub overflow_add-sum : goal.overflow_add-sum
-overflow_add-sum c = omega (arith, c.size-sum.ensures.1)
-
-pub overflow_add-r : goal.overflow_add-r
-overflow_add-r c = omega arith
-
-pub loop-r-smaller : goal.loop-r-smaller
-loop-r-smaller c = omega arith
+loop-r-init c = (sum-start _, omega arith)
 
 pub loop-r-preserved : goal.loop-r-preserved
-loop-r-preserved c = (omega arith, sum_more _ _ c.loop-r.invariant.1 c.size-sum.ensures.0, omega (arith, c.size-sum.ensures.1))
+loop-r-preserved c = (sum_more _ _ c.loop-r.invariant.0 c.size-sum.ensures.0, omega (arith, c.size-sum.ensures.1))
 
 pub returns : goal.returns
-returns c = let l = c.loop-r in
-    total-nine _ c.well_formed.0.1.1.1.1.1.0.1.0.1 _ (sum-end 9 l.r _ l.invariant.1 l.invariant.0 (omega arith))
+returns c = let few : length c.args.d.columns ≡ 9 = search rules in
+    total-nine _ few _ (sum-end 9 c.loop-r.r _ c.loop-r.invariant.0 c.loop-r.auto.r-end c.loop-r-test.false)

@@ -1,59 +1,28 @@
-use borrow.Author.Rules.{rules}
+-- The number of each fault is its place among them, from 1.
+use Rattle.std.proofs.Common.{◌≡◌, ◌+◌, refl}
 use Rattle.model.specs.Numbers.{fault_number}
+use Rattle.model.specs.contracts.Fault.{the_type}
+use Rattle.model.specs.declared.Fault.{Fault}
+use Rattle.model.specs.declared.Fault.TheVariants as Faults
+use denote.Enum.Declared.{tag_of}
 use Rattle.numbers.proofs.fault.Goals as goal
 
-pub returns-in-Description : goal.returns-in-Description
+place : (fault : Fault) → tag_of the_type fault + 1 ≡ fault_number fault
 unfolding fault_number
-returns-in-Description c = search rules
+place Faults.Description = refl
+place Faults.Length = refl
+place Faults.Illegal = refl
+place Faults.Malformed = refl
+place Faults.Unseen = refl
+place Faults.Range = refl
+place Faults.Absent = refl
+place Faults.Several = refl
+place Faults.Taken = refl
+place Faults.KeyClass = refl
+place Faults.Reference = refl
+place Faults.Referred = refl
+place Faults.Full = refl
+place Faults.Short = refl
 
-pub returns-in-Length : goal.returns-in-Length
-unfolding fault_number
-returns-in-Length c = search rules
-
-pub returns-in-Illegal : goal.returns-in-Illegal
-unfolding fault_number
-returns-in-Illegal c = search rules
-
-pub returns-in-Malformed : goal.returns-in-Malformed
-unfolding fault_number
-returns-in-Malformed c = search rules
-
-pub returns-in-Unseen : goal.returns-in-Unseen
-unfolding fault_number
-returns-in-Unseen c = search rules
-
-pub returns-in-Range : goal.returns-in-Range
-unfolding fault_number
-returns-in-Range c = search rules
-
-pub returns-in-Absent : goal.returns-in-Absent
-unfolding fault_number
-returns-in-Absent c = search rules
-
-pub returns-in-Several : goal.returns-in-Several
-unfolding fault_number
-returns-in-Several c = search rules
-
-pub returns-in-Taken : goal.returns-in-Taken
-unfolding fault_number
-returns-in-Taken c = search rules
-
-pub returns-in-KeyClass : goal.returns-in-KeyClass
-unfolding fault_number
-returns-in-KeyClass c = search rules
-
-pub returns-in-Reference : goal.returns-in-Reference
-unfolding fault_number
-returns-in-Reference c = search rules
-
-pub returns-in-Referred : goal.returns-in-Referred
-unfolding fault_number
-returns-in-Referred c = search rules
-
-pub returns-in-Full : goal.returns-in-Full
-unfolding fault_number
-returns-in-Full c = search rules
-
-pub returns-in-Short : goal.returns-in-Short
-unfolding fault_number
-returns-in-Short c = search rules
+pub returns : goal.returns
+returns c = place c.args.fault
