@@ -8,7 +8,7 @@ ghost use Rattle.above.specs.Facts.{OneRow, gone_by};
 ghost use Rattle.above.specs.Entities.{touched_at, same_at};
 
 use crate::plan::Plan;
-use crate::reach::Reach;
+use crate::reach::Reached;
 use cells::layout::Part;
 
 // The row of a key at a level, looked for at `hint` first: entities tend to stand in the same row everywhere.
@@ -23,7 +23,7 @@ fn near(values: &[u32], part: Part, level: usize, key: u32, hint: usize) -> Opti
     part.find(values, level, key)
 }
 
-impl Reach {
+impl Reached {
     // Whether the entity of a row has a chosen row at the subject's level.
     pub(crate) fn touched(self, values: &[u32], classes: &[u8], plan: Plan, row: usize) -> bool
         requires lent { Lent self.part.description (length values.now) (length classes.now) × (row < row_count self.part.description self.part.relation) }

@@ -13,7 +13,7 @@ use cells::layout::{Part, lay};
 
 // A relation at a level that a statement reaches, and the subject's own level.
 #[derive(Clone, Copy)]
-pub(crate) struct Reach {
+pub(crate) struct Reached {
     pub(crate) part: Part,
     pub(crate) subject: u8,
     pub(crate) level: usize,
@@ -89,12 +89,12 @@ pub(crate) fn reach(
     if !table.levels().over(level, subject) {
         return;
     }
-    let reach = Reach {
+    let reached = Reached {
         part: table.part,
         subject: subject as u8,
         level,
     };
     let given = given(values, classes, table, plan, subject, level);
-    reach.referrers(values, classes, plan);
-    reach.rows(values, classes, given);
+    reached.referrers(values, classes, plan);
+    reached.rows(values, classes, given);
 }

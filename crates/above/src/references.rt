@@ -8,13 +8,13 @@ ghost use Rattle.above.specs.Entities.{owns_at, keeps_at};
 ghost use Rattle.above.specs.Turns.{ReferenceTurns, ReferencesTurn, ReferrerTurns, ReferrersTurn};
 
 use crate::plan::Plan;
-use crate::reach::Reach;
+use crate::reach::Reached;
 use cells::layout::{Part, lay};
 
 // Where the cells stand of a relation that refers to the one whose rows are emptied.
 #[derive(Clone, Copy)]
 struct Referrer {
-    named: Reach,
+    named: Reached,
     part: Part,
     ghost same: { named.part.description ≡ part.description },
     ghost referring: { Referring part.description named.part.relation part.relation named.subject named.level },
@@ -93,7 +93,7 @@ impl Referrer {
     }
 }
 
-impl Reach {
+impl Reached {
     // A relation's references at the level, where it refers to the relation that rows are emptied of.
     fn referrer(self, values: &mut [u32], classes: &[u8], plan: Plan, referrer: usize)
         requires lent { Lent self.part.description (length values.old) (length classes.now) × (sound self.part.description ≡ true) }

@@ -6,7 +6,7 @@ ghost use Rattle.above.specs.Facts.{OneRow, Apart};
 ghost use Rattle.above.specs.Turns.{CellsTurn, RowTurns, RowsTurn};
 
 use crate::plan::Plan;
-use crate::reach::Reach;
+use crate::reach::Reached;
 use cells::layout::Part;
 
 // The cells of a row that are of the subject's class change as planned.
@@ -34,7 +34,7 @@ fn cells(
     }
 }
 
-impl Reach {
+impl Reached {
     // A row: it stays, is emptied, or its cells of the subject's class change.
     fn row(self, values: &mut [u32], classes: &mut [u8], plan: Plan, row: usize)
         requires lent { Lent self.part.description (length values.old) (length classes.old) × (row < row_count self.part.description self.part.relation) }
