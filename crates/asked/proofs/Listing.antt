@@ -1,24 +1,18 @@
--- Laws of a list's pairs, and of what is asked of one.
+-- Laws of a list's pairs.
 -- Assumes nothing.
 use mathlib.Core.Path.{◌≡◌, refl, ap, ap₂}
-use mathlib.Core.Bool.{Bool, true, false}
+use mathlib.Core.Bool.{Bool}
 use mathlib.Core.List.{List, []}
 use Prim.Native.Nat.{ℕ, ◌/◌, ◌<◌}
 use native.Mathlib.Omega.{arith}
-use lib.Dec.{eqb, ltb}
+use lib.Dec.{eqb}
 use lib.ListN.{length, get_or}
 use Rattle.std.specs.List.{list_all, position}
 use Rattle.std.specs.Simd.{first_chunks}
-use Rattle.model.specs.declared.Description.{Description}
-use Rattle.model.specs.Description.{between, distinct_below, is_level, is_column}
+use Rattle.model.specs.Description.{distinct_below}
 use Rattle.model.specs.Listed.{pairs, column_at, second_at, each, columns_once}
-use Rattle.asked.specs.declared.pairs.Rule.{Rule}
-use Rattle.asked.specs.declared.pairs.Rule.TheVariants as Rules
-use Rattle.asked.specs.Known.{Related}
-use Rattle.asked.specs.Facts.{Found, first_of, rule_of}
+use Rattle.asked.specs.Facts.{Found, first_of}
 use Rattle.asked.proofs.Lists.{entry-at, all-entries, first-entry, once-entries}
-
--- ---- pairs
 
 module _ (xs : List ℕ) where
   column-of : (i : ℕ) → i < length xs / 2 → get_or (get_or (first_chunks 2 (length xs / 2) xs) i []) 0 0 ≡ column_at xs i
@@ -40,22 +34,3 @@ module _ (xs : List ℕ) where
   pub pairs-once : distinct_below (length (first_chunks 2 (length xs / 2) xs)) (first_of (first_chunks 2 (length xs / 2) xs)) ≡ columns_once xs
   unfolding columns_once pairs column_at
   pairs-once = once-entries 2 (length xs / 2) xs _ (omega arith) (λ i. refl)
-
--- ---- what is asked of one
-
-module _ (d : Description) (r columns k a : ℕ) (R : Related d r columns) {b : Bool} (x : b ≡ between 1 columns k) where
-  column-is : is_column d r k ≡ b
-  unfolding is_column
-  column-is = rw (← R.is, x)
-
-  pub rule-column : {rule : Rule} → rule ≡ Rules.Column → b ≡ rule_of d r rule k a
-  unfolding rule_of
-  rule-column e = rw (e, column-is)
-
-  pub rule-none : {rule : Rule} → rule ≡ Rules.From → b ≡ false → b ≡ rule_of d r rule k a
-  unfolding rule_of
-  rule-none e t = rw (e, column-is, t)
-
-  pub rule-from : {rule : Rule} → rule ≡ Rules.From → b ≡ true → ltb a d.levels ≡ rule_of d r rule k a
-  unfolding rule_of is_level
-  rule-from e t = rw (e, column-is, t)

@@ -1,6 +1,5 @@
 // A list of pairs: a column, and a value or a FROM level.
 ghost use Rattle.std.specs.Prelude.{◌≡◌};
-ghost use Rattle.model.specs.Description.{between};
 ghost use Rattle.model.specs.Listed.{each as each_of, columns_once};
 ghost use Rattle.asked.specs.Facts.{Found, rule_of};
 
@@ -25,13 +24,6 @@ pub enum Rule {
 }
 
 impl Columns {
-    // The column exists.
-    fn exists(self, column: usize) -> bool
-        ensures { result ≡ between 1 self.count column }
-    {
-        1 <= column && column <= self.count
-    }
-
     // One pair is as the rule asks.
     fn holds(self, rule: Rule, column: usize, second: usize) -> bool
         ensures { result ≡ rule_of self.levels.description self.relation rule column second }
