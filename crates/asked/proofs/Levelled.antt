@@ -3,7 +3,7 @@
 use mathlib.Core.Path.{◌≡◌, sym, ◌∙◌}
 use mathlib.Core.Bool.{Bool, true, false, ◌&&◌}
 use mathlib.Core.List.{List}
-use Prim.Native.Nat.{ℕ, ◌+◌, ◌*◌, ◌≤◌}
+use Prim.Native.Nat.{ℕ, ◌+◌, ◌*◌, ◌<◌}
 use native.Mathlib.Omega.{arith}
 use lib.ListN.{get_or}
 use Rattle.bounded.proofs.Reflection.{of-true}
@@ -22,8 +22,8 @@ over-entry d order O a b = rw O.order_is ((order-laws d.labels d.levels).entries
 -- ---- a level in a column's range, one law for each way through the code
 
 module _ (d : Description) (r k : ℕ) where
-  pub column-few : (columns : ℕ) → Related d r columns → is_column d r k ≡ true → k ≤ 8
-  column-few columns R e = let f = of-true (column-r d r k) e in omega (arith, f.1, R.is, R.narrow)
+  pub in_ranges : (columns : ℕ) → Related d r columns → {b : Bool} → b ≡ is_column d r k → b ≡ true → 9 * r + k < 81
+  in_ranges columns R e t = let f = of-true (column-r d r k) (sym e ∙ t) in omega (arith, f.1, R.relation, R.is, R.narrow)
 
   module _ (c : ℕ) where
     pub range_none : is_column d r k ≡ false → false ≡ in_range d r k c

@@ -24,6 +24,7 @@ impl Columns {
     }
 
     // Whether a level is in the range of a column that exists.
+    #[tactic(auto, using(crate::proofs::Levelled::in_ranges))]
     pub(crate) fn takes(self, column: usize, level: usize) -> bool
         ensures { result ≡ in_range self.levels.description self.relation column level }
     {
