@@ -41,6 +41,13 @@ module _ (d : Description) (z : sound d ≡ true) (r : ℕ) (h : is_relation d r
 
 -- ---- whether it is lost
 
+-- what is not taken is not lost
+untaken : (d : Description) (r c : ℕ) (S : State) (l : ℕ) (h : Change) → ((v o : ℕ) → h ≡ Changes.Take v o → ⊥) → lost_as d r c S l h ≡ false
+unfolding lost_as
+untaken d r c S l Changes.Keep n = refl
+untaken d r c S l (Changes.Take v o) n = absurd (n v o refl)
+untaken d r c S l (Changes.Only v o) n = refl
+
 module _ (d : Description) (r : ℕ) (P : Plan) (c : ℕ) (S : State) (l : ℕ) {k : ℕ} (e : k ≡ foreign_of d r) where
   abbrev lost : Bool
   lost = lost_by d r P c S l
@@ -49,11 +56,9 @@ module _ (d : Description) (r : ℕ) (P : Plan) (c : ℕ) (S : State) (l : ℕ) 
   unfolding lost_by
   lost-unreferring z = rw (← e, z)
 
-  module _ {h : Change} (is : planned P k ≡ h) where
-    -- what is not taken is not lost
-    pub lost-untaken : lost_as d r c S l h ≡ false → false ≡ lost
-    unfolding lost_by
-    lost-untaken q = rw (← e, is, q) (sym (and-false-right (not (eqb k 0)) false refl))
+  pub lost-untaken : ((v o : ℕ) → planned P k ≡ Changes.Take v o → ⊥) → false ≡ lost
+  unfolding lost_by
+  lost-untaken n = rw (← e, untaken d r c S l (planned P k) n) (sym (and-false-right (not (eqb k 0)) false refl))
 
   module _ (nz : k ≢ 0) {v o : ℕ} (is : planned P k ≡ Changes.Take v o) where
     pub lost-null : v ≡ 0 → false ≡ lost
@@ -101,9 +106,9 @@ module _ (d : Description) (r c l : ℕ) (P : Plan) (S : State) (Q : Planned d r
   unfolding given_by handed
   given-null t = rw t (get_or-set_same P.changes (foreign_of d r) _ Changes.Keep (omega (arith, Q.changes)))
 
-  not-lost : {h : Change} → planned P (foreign_of d r) ≡ h → lost_as d r c S l h ≡ false → lost_by d r P c S l ≡ false
+  not-lost : {h : Change} → planned P (foreign_of d r) ≡ h → ((v o : ℕ) → h ≡ Changes.Take v o → ⊥) → lost_by d r P c S l ≡ false
   unfolding lost_by
-  not-lost e q = rw (e, q) (and-false-right (not (eqb (foreign_of d r) 0)) false refl)
+  not-lost e n = rw (e, untaken d r c S l _ n) (and-false-right (not (eqb (foreign_of d r) 0)) false refl)
 
   -- the change stays, where no reference in that column is lost
   given-as : (k : ℕ) {h : Change} → planned P k ≡ h → (k ≡ foreign_of d r → lost_by d r P c S l ≡ false) → planned G k ≡ h
@@ -139,10 +144,10 @@ module _ (d : Description) (r c l : ℕ) (P : Plan) (S : State) (Q : Planned d r
 
     -- what becomes of a cell of the subject's class in a touched row
     pub turns : (x : Cell) → changed d (at d (rows_of S)) c r l k (change_of P k) x ≡ becomes (planned G k) x
-    unfolding change_of effect_of becomes changed lost_as
+    unfolding change_of effect_of becomes changed
     turns x = go (planned P k) refl
       where
         go : (h : Change) → planned P k ≡ h → changed d (at d (rows_of S)) c r l k (effect_of (planned P k)) x ≡ becomes (planned G k) x
-        go Changes.Keep e = rw (given-as k e (λ q. not-lost (rw q at e) refl), e)
+        go Changes.Keep e = rw (given-as k e (λ q. not-lost (rw q at e) (λ v o z. cc)), e)
         go (Changes.Take v o) e = rw e (taken x v o e)
-        go (Changes.Only v o) e = rw (given-as k e (λ q. not-lost (rw q at e) refl), e)
+        go (Changes.Only v o) e = rw (given-as k e (λ q. not-lost (rw q at e) (λ v o z. cc)), e)

@@ -25,5 +25,5 @@ returns-then-class-owner c = rw (c.in-Only.is, eq-eqb _ _ c.if-value-planned.tru
 pub returns-else-value-planned : goal.returns-else-value-planned
 unfolding becomes same
 returns-else-value-planned c =
-    let n : (eqb c.args.value c.in-Only.planned && eqb c.args.class c.in-Only.owner) ≡ false = ⊎_elim (λ w. and-false-right _ _ (ne_eqb _ _ w.1)) (λ w. rw (ne_eqb _ _ w)) c.else-value-planned.either in
+    let n : (eqb c.args.value c.in-Only.planned && eqb c.args.class c.in-Only.owner) ≡ false = ⊎_elim (λ w. and-false-right _ _ (ne_eqb _ _ w.1)) (λ w. rw (ne_eqb c.args.value c.in-Only.planned w)) c.else-value-planned.either in
     rw (c.in-Only.is, n)

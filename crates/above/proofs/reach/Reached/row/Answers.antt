@@ -6,28 +6,34 @@ use lib.Dec.{eqb}
 use Rattle.bounded.proofs.Cases.{and-false-right}
 use Rattle.cells.proofs.Sought.{key-inside}
 use Rattle.above.proofs.Rewritten.{row_kept, row-emptied, row-turned}
-use Rattle.above.proofs.rows.row.Goals as goal
+use Rattle.above.proofs.reach.Reached.row.Goals as goal
 
 pub returns-then-not-touched : goal.returns-then-not-touched
 returns-then-not-touched c = row_kept _ _ _ _ _ _ _ _ _ _ c.touched.ensures c.if-not-touched.true
 
 pub class_at-class-requires : goal.class_at-class-requires
-class_at-class-requires c = record { sized = record { laid = c.requires.lent.0.laid; size = c.requires.lent.0.classes }; cell_inside = key-inside _ _ _ _ c.requires.lent.1.level c.requires.lent.1.row }
+class_at-class-requires c = record { sized = c.requires.lent.0.classes; cell_inside = key-inside _ _ _ _ c.args.self.at c.requires.lent.1 }
 
-pub returns-then-class-subject : goal.returns-then-class-subject
-returns-then-class-subject c =
+pub clear-requires : goal.clear-requires
+clear-requires c = record { lent = c.requires.lent.0; in_row = record { level = c.args.self.at; row = c.requires.lent.1 } }
+
+pub cells-requires : goal.cells-requires
+cells-requires c = record { lent = c.requires.lent.0; in_row = record { level = c.args.self.at; row = c.requires.lent.1 } }
+
+pub returns-then-class-self : goal.returns-then-class-self
+returns-then-class-self c =
     row-emptied
     _ _ _ _ _ _ _ _ _ _
     c.touched.ensures
     c.if-not-touched.false
     c.class_at-class.ensures
-    c.if-gone.true
-    (eq-eqb _ _ c.if-class-subject.true)
+    c.if-plan.true
+    (eq-eqb _ _ c.if-class-self.true)
     c.clear.ensures
 
 pub returns : goal.returns
 returns c =
-    let n : (c.args.plan.gone && eqb c.class_at-class.result c.args.subject) ≡ false = ⊎_elim (λ w. and-false-right c.args.plan.gone (eqb c.class_at-class.result c.args.subject) (ne_eqb _ _ w.1)) (λ w. rw w) c.else-gone.either in
+    let n : (c.args.plan.gone && eqb c.class_at-class.result c.args.self.subject) ≡ false = ⊎_elim (λ w. and-false-right c.args.plan.gone (eqb c.class_at-class.result c.args.self.subject) (ne_eqb _ _ w.1)) (λ w. rw w) c.else-plan.either in
     row-turned
     _ _ _ _ _ _ _ _ _ _
     c.touched.ensures

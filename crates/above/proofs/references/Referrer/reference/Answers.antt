@@ -2,34 +2,46 @@ use mathlib.Core.Path.{◌∙◌}
 use native.Mathlib.Omega.{arith}
 use Rattle.cells.proofs.Counts.{foreign-is}
 use Rattle.above.proofs.Unnamed.{inside-foreign, value_cell, reference-stays, reference-kept, reference-falls}
-use Rattle.above.proofs.references.reference.Goals as goal
+use Rattle.above.proofs.references.Referrer.reference.Goals as goal
 
-pub bounds-description-referrer : goal.bounds-description-referrer
-bounds-description-referrer c = omega (arith, c.requires.referring.0.few)
+pub bounds-part-part : goal.bounds-part-part
+bounds-part-part c = omega (arith, c.args.self.referring.few)
 
 pub value_at-key-requires : goal.value_at-key-requires
-value_at-key-requires c = record { sized = record { laid = c.requires.lent.1.laid; size = c.requires.lent.1.values }; cell_inside = inside-foreign _ _ _ _ _ _ c.requires.referring.0 c.requires.referring.1.row }
+value_at-key-requires c = record { sized = c.requires.lent.values; cell_inside = inside-foreign _ _ _ _ _ _ c.args.self.referring c.requires.in_row }
+
+pub gone-requires : goal.gone-requires
+gone-requires c = rw c.args.self.same (record { values = c.requires.lent.values; classes = c.requires.lent.classes }, c.args.self.referring.apart.few)
 
 pub returns-then-not-gone : goal.returns-then-not-gone
-returns-then-not-gone c = reference-stays _ _ _ _ _ _ _ _ _ (foreign-is _ _ c.requires.referring.0.named) (c.value_at-key.ensures ∙ value_cell _ _ _ _ _ _ _) c.gone.ensures c.if-not-gone.true
+returns-then-not-gone c = reference-stays
+    _ _ _ _ _ _ _ _ _
+    (foreign-is _ _ c.args.self.referring.named)
+    (c.value_at-key.ensures ∙ value_cell _ _ _ _ _ _ _)
+    (rw c.args.self.same at c.gone.ensures)
+    c.if-not-gone.true
 
 pub kept-requires : goal.kept-requires
-kept-requires c = record { lent = (c.requires.lent.1, c.requires.referring.1); in_level = (c.requires.referring.0.subject, inside-foreign _ _ _ _ _ _ c.requires.referring.0 c.requires.referring.1.row) }
+kept-requires c = record {
+  lent = (c.requires.lent, record { level = c.args.self.referring.level; row = c.requires.in_row });
+  in_level = (c.args.self.referring.subject, inside-foreign _ _ _ _ _ _ c.args.self.referring c.requires.in_row);
+}
 
 pub returns-then-kept : goal.returns-then-kept
-returns-then-kept c = reference-kept _ _ _ _ _ _ _ _ _ (foreign-is _ _ c.requires.referring.0.named) (c.value_at-key.ensures ∙ value_cell _ _ _ _ _ _ _) c.kept.ensures c.if-kept.true
+returns-then-kept c = reference-kept _ _ _ _ _ _ _ _ _ (foreign-is _ _ c.args.self.referring.named) (c.value_at-key.ensures ∙ value_cell _ _ _ _ _ _ _) c.kept.ensures c.if-kept.true
 
 pub put_value-requires : goal.put_value-requires
-put_value-requires c = record { sized = record { laid = c.requires.lent.1.laid; size = c.requires.lent.1.values }; cell_inside = inside-foreign _ _ _ _ _ _ c.requires.referring.0 c.requires.referring.1.row }
+put_value-requires c = record { sized = c.requires.lent.values; cell_inside = inside-foreign _ _ _ _ _ _ c.args.self.referring c.requires.in_row }
 
 pub returns : goal.returns
-returns c = reference-falls _ _ _ _ _ _ _ _ _
-    (foreign-is _ _ c.requires.referring.0.named)
+returns c = reference-falls
+    _ _ _ _ _ _ _ _ _
+    (foreign-is _ _ c.args.self.referring.named)
     (c.value_at-key.ensures ∙ value_cell _ _ _ _ _ _ _)
-    c.gone.ensures
+    (rw c.args.self.same at c.gone.ensures)
     c.if-not-gone.false
     c.kept.ensures
     c.if-kept.false
-    c.requires.referring.0.foreign
-    c.requires.referring.0.column
+    c.args.self.referring.foreign
+    c.args.self.referring.column
     (c.put_value.ensures _)
