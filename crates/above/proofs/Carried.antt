@@ -10,7 +10,7 @@ use native.Mathlib.Omega.{arith}
 use lib.Dec.{eqb, ltb}
 use lib.ListN.{get_or}
 use borrow.Author.Tests.{eq-eqb, ne_eqb, lt-ltb, ltb-true, ltb-false, eqb-true, eqb-false}
-use Rattle.bounded.proofs.Cases.{cases, order, clash, and-false-right}
+use Rattle.bounded.proofs.Cases.{cases, clash, and-false-right}
 use Rattle.bounded.proofs.First.{first_holds}
 use Rattle.bounded.proofs.Reflection.{is_false, of-true, bool-r, and_r, ltb-r}
 use Rattle.model.specs.declared.Description.{Description}

@@ -3,7 +3,6 @@ use native.Mathlib.Omega.{arith}
 use borrow.Author.Tests.{not-true}
 use Rattle.bounded.proofs.Reflection.{is_true}
 use Rattle.model.proofs.Sound.{relation-r}
-use Rattle.cells.proofs.Counts.{sound-says}
 use Rattle.above.proofs.Referred.{referrers-start, referrers-none, referrers-more, referrers-end}
 use Rattle.above.proofs.reach.Reached.referrers.Goals as goal
 

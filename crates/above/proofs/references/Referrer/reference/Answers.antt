@@ -11,7 +11,7 @@ pub value_at-key-requires : goal.value_at-key-requires
 value_at-key-requires c = record { sized = c.requires.lent.values; cell_inside = inside-foreign _ _ _ _ _ _ c.args.self.referring c.requires.in_row }
 
 pub gone-requires : goal.gone-requires
-gone-requires c = rw c.args.self.same (record { values = c.requires.lent.values; classes = c.requires.lent.classes }, c.args.self.referring.apart.few)
+gone-requires c = rw c.args.self.same (record { lent = (c.requires.lent, c.args.self.referring.apart.few) })
 
 pub returns-then-not-gone : goal.returns-then-not-gone
 returns-then-not-gone c = reference-stays
