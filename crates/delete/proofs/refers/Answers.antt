@@ -32,10 +32,10 @@ pub value_at-key-requires : goal.value_at-key-requires
 value_at-key-requires c = let k = c.requires.naming in
     let p = c.lay-place.ensures in
     let n = rw (p.described, p.of_relation) at c.lay-place.result.laid.rows in record {
-  sized = rw p.described k.long;
-  cell_inside = rw (p.described, p.of_relation, foreign-is _ _ k.relation)
-      (reference-inside _ _ _ _ _ k c.requires.in_level.1 (sym (refers-is _ _ k.relation) ∙ c.if-description-referrer.false) c.loop-row.row (omega (arith, n, c.loop-row-test.true)));
-}
+      sized = rw p.described k.long;
+      cell_inside = rw (p.described, p.of_relation, foreign-is _ _ k.relation)
+          (reference-inside _ _ _ _ _ k c.requires.in_level.1 (sym (refers-is _ _ k.relation) ∙ c.if-description-referrer.false) c.loop-row.row (omega (arith, n, c.loop-row-test.true)));
+    }
 
 pub names-requires : goal.names-requires
 names-requires c = record { sized = c.requires.naming.long; in_level = c.requires.in_level.0 }

@@ -27,10 +27,10 @@ put-requires c = let l = c.loop-i in
 pub loop-i-preserved : goal.loop-i-preserved
 unfolding pairs_of column_at second_at
 loop-i-preserved c = let l = c.loop-i in (
-      c.put.auto.values ∙ l.invariant.0,
-      c.put.auto.classes ∙ l.invariant.1,
-      set_more _ _ _ _ _ _ _ l.i c.requires.listing.0 c.loop-i-test.true l.invariant.2 c.put.ensures,
-    )
+  c.put.auto.values ∙ l.invariant.0,
+  c.put.auto.classes ∙ l.invariant.1,
+  set_more _ _ _ _ _ _ _ l.i c.requires.listing.0 c.loop-i-test.true l.invariant.2 c.put.ensures,
+)
 
 pub returns : goal.returns
 unfolding pairs_of
