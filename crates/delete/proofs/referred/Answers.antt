@@ -12,13 +12,17 @@ pub loop-referrer-init : goal.loop-referrer-init
 loop-referrer-init c = referred-start _ _ _ _ _
 
 pub refers-requires : goal.refers-requires
-refers-requires c = ?
+refers-requires c = let n = c.requires in let l = c.loop-referrer in record {
+  in_level = (in-level _ n.sound-is _ n.relation _ n.level, (of-true (relation-r _ _) n.relation).0);
+  naming = record { sound-is = n.sound-is; relation = is_true (relation-r _ _) (l.auto.referrer, omega arith); level = n.level; long = n.long };
+}
 
 pub returns-then-refers : goal.returns-then-refers
-returns-then-refers c = referred-here _ _ _ _ _ _ c.refers.ensures c.if-refers.true ?
+returns-then-refers c = referred-here _ _ _ _ _ _ c.refers.ensures c.if-refers.true (omega arith)
 
 pub loop-referrer-preserved : goal.loop-referrer-preserved
 loop-referrer-preserved c = let l = c.loop-referrer in any-more l.referrer _ l.invariant c.refers.ensures c.if-refers.false
 
 pub returns : goal.returns
-returns c = ?
+returns c = let l = c.loop-referrer in
+    referred-none _ _ _ _ _ l.referrer l.invariant (omega arith) (omega arith)
