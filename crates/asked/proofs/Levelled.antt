@@ -14,7 +14,7 @@ use Rattle.model.specs.declared.Description.{Description}
 use Rattle.model.specs.Description.{over, is_column, low_of, high_of, in_range}
 use Rattle.model.specs.Tables.{own_null}
 use Rattle.model.proofs.Sound.{column-r}
-use Rattle.asked.specs.Facts.{Ordered, Related}
+use Rattle.asked.specs.Known.{Ordered, Related}
 
 pub over-entry : (d : Description) (order : List (List Bool)) → Ordered d order → (a b : ℕ) → entry_of order a b ≡ over d a b
 unfolding over
@@ -37,17 +37,17 @@ module _ (d : Description) (r columns k : ℕ) (R : Related d r columns) where
     unfolding in_range
     range_none e = rw e
 
-    module _ (order : List (List Bool)) (O : Ordered d order) (e : is_column d r k ≡ true) {b : Bool} (x : b ≡ entry_of order (get_or d.high (9 * r + k) 0) c) where
+    module _ (e : is_column d r k ≡ true) {b : Bool} (x : b ≡ over d (get_or d.high (9 * r + k) 0) c) where
       range-as : in_range d r k c ≡ (b && over d c (low_of d r k))
       unfolding in_range high_of
-      range-as = rw (e, x, over-entry d order O (get_or d.high (9 * r + k) 0) c)
+      range-as = rw (e, x)
 
-      pub range-high : b ≡ false → false ≡ in_range d r k c
-      range-high t = sym (range-as ∙ rw t)
+      pub range-high : b ≡ false → b ≡ in_range d r k c
+      range-high t = t ∙ sym (range-as ∙ rw t)
 
-      pub range-low : b ≡ true → {a : Bool} → a ≡ entry_of order c (get_or d.low (9 * r + k) 0) → a ≡ in_range d r k c
+      pub range-low : b ≡ true → {a : Bool} → a ≡ over d c (get_or d.low (9 * r + k) 0) → a ≡ in_range d r k c
       unfolding low_of
-      range-low t y = y ∙ over-entry d order O c (get_or d.low (9 * r + k) 0) ∙ sym (range-as ∙ rw t)
+      range-low t y = y ∙ sym (range-as ∙ rw t)
 
 -- ---- the class of a column's own null
 

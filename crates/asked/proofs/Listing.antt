@@ -8,7 +8,8 @@ use Rattle.model.specs.declared.Description.{Description}
 use Rattle.model.specs.Description.{between, is_level, is_column}
 use Rattle.asked.specs.declared.pairs.Rule.{Rule}
 use Rattle.asked.specs.declared.pairs.Rule.TheVariants as Rules
-use Rattle.asked.specs.Facts.{Related, rule_of}
+use Rattle.asked.specs.Known.{Related}
+use Rattle.asked.specs.Facts.{rule_of}
 
 module _ (d : Description) (r columns k a : ℕ) (R : Related d r columns) {b : Bool} (x : b ≡ between 1 columns k) where
   column-is : is_column d r k ≡ b

@@ -2,18 +2,18 @@
 -- Assumes nothing.
 use mathlib.Core.Path.{sym, ◌∙◌}
 use Rattle.level.proofs.Settled.{Settled}
-use Rattle.asked.proofs.ranges.over.Reads as over
-use Rattle.asked.proofs.ranges.takes.Reads as takes
-use Rattle.asked.proofs.ranges.null.Reads as null
-use Rattle.asked.proofs.pairs.each.Reads as each
+use Rattle.asked.proofs.levels.Levels.over.Reads as over
+use Rattle.asked.proofs.columns.Columns.takes.Reads as takes
+use Rattle.asked.proofs.columns.Columns.null.Reads as null
+use Rattle.asked.proofs.columns.Columns.each.Reads as each
 use Rattle.asked.proofs.pairs.once.Reads as pairs-once
 use Rattle.asked.proofs.pairs.find.Reads as find
 use Rattle.asked.proofs.levels.exist.Reads as exist
-use Rattle.asked.proofs.levels.seen.Reads as seen
+use Rattle.asked.proofs.levels.Levels.seen.Reads as seen
 use Rattle.asked.proofs.levels.once.Reads as levels-once
 use Rattle.asked.proofs.levels.lists.Reads as lists
 
--- ---- ranges
+-- ---- an order and ranges
 
 pub over-settled : Settled over.Post
 over-settled κs a x y e f p q = p ∙ sym q
@@ -33,7 +33,7 @@ pub pairs-once-settled : Settled pairs-once.Post
 pairs-once-settled κs a x y e f p q = p ∙ sym q
 
 pub find-settled : Settled find.Post
-find-settled κs a x y e f p q = p.is ∙ sym q.is
+find-settled κs a x y e f p q = p ∙ sym q
 
 -- ---- levels
 

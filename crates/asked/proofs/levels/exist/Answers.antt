@@ -4,19 +4,18 @@ use borrow.Author.Tests.{lt-ltb, le-ltb}
 use Rattle.bounded.proofs.All.{all_start, all_more, all-fails, all_end}
 use Rattle.model.specs.Description.{is_level}
 use Rattle.model.specs.Listed.{each_level}
-use borrow.Author.Rules.{rules}
 use Rattle.asked.proofs.levels.exist.Goals as goal
 
-pub loop-i-init : goal.loop-i-init
-loop-i-init c = (search rules, all_start _)
+pub loop-level-init : goal.loop-level-init
+loop-level-init c = all_start _
 
-pub returns-then-levels-list : goal.returns-then-levels-list
+pub returns-then-from-level : goal.returns-then-from-level
 unfolding each_level is_level
-returns-then-levels-list c = sym (all-fails _ _ _ refl (le-ltb _ _ c.if-levels-list.true) c.loop-i-test.true)
+returns-then-from-level c = sym (all-fails _ _ _ refl (le-ltb _ _ (omega arith)) c.loop-level-test.true)
 
-pub loop-i-preserved : goal.loop-i-preserved
-loop-i-preserved c = let l = c.loop-i in (omega arith, all_more l.i _ l.invariant.1 refl (lt-ltb _ _ c.if-levels-list.false))
+pub loop-level-preserved : goal.loop-level-preserved
+loop-level-preserved c = all_more _ _ c.loop-level.invariant refl (lt-ltb _ _ (omega arith))
 
 pub returns : goal.returns
 unfolding each_level is_level
-returns c = let l = c.loop-i in sym (all_end _ l.i _ l.invariant.1 l.invariant.0 c.loop-i-test.false)
+returns c = let l = c.loop-level in sym (all_end _ l.level-index _ l.invariant l.auto.level-index-end c.loop-level-test.false)

@@ -1,15 +1,10 @@
-use Prim.Native.Nat.{◌-◌, ◌≤◌}
 use mathlib.Core.Bool.{true}
 use mathlib.Core.Path.{◌≡◌}
 use lib.Dec.{ltb}
-use lib.ListN.{length, get_or}
+use lib.ListN.{get_or}
 use Rattle.bounded.specs.Bounded.{all_below}
 use Rattle.asked.proofs.levels.exist.Given as goal
 
-abbrev pub invariant-loop-i : goal.invariant-loop-i
-invariant-loop-i l =
-    (l.i ≤ length l.list) × (all_below l.i (λ j. ltb (get_or l.list j 0) l.levels) ≡ true)
-
-abbrev pub decreases-loop-i : goal.decreases-loop-i
-decreases-loop-i l =
-    length l.list - l.i
+abbrev pub invariant-loop-level : goal.invariant-loop-level
+invariant-loop-level l =
+    all_below l.level-index (λ j. ltb (get_or l.list j 0) l.description.levels) ≡ true

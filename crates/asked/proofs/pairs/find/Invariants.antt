@@ -1,4 +1,3 @@
-use Prim.Native.Nat.{◌-◌, ◌≤◌}
 use mathlib.Core.Path.{◌≡◌}
 use lib.Dec.{eqb}
 use Rattle.bounded.specs.Bounded.{first_below}
@@ -7,8 +6,4 @@ use Rattle.asked.proofs.pairs.find.Given as goal
 
 abbrev pub invariant-loop-i : goal.invariant-loop-i
 invariant-loop-i l =
-    (l.i ≤ l.pairs) × (first_below l.i (λ j. eqb (column_at l.list j) l.column) ≡ l.i)
-
-abbrev pub decreases-loop-i : goal.decreases-loop-i
-decreases-loop-i l =
-    l.pairs - l.i
+    first_below l.i (λ j. eqb (column_at l.list j) l.column) ≡ l.i

@@ -1,4 +1,3 @@
-use Prim.Native.Nat.{◌-◌, ◌≤◌}
 use mathlib.Core.Bool.{true, not}
 use mathlib.Core.Path.{◌≡◌}
 use lib.Dec.{eqb}
@@ -8,8 +7,4 @@ use Rattle.asked.proofs.pairs.once.Given as goal
 
 abbrev pub invariant-loop-i : goal.invariant-loop-i
 invariant-loop-i l =
-    (l.i ≤ l.pairs) × (all_below l.i (λ k. all_below k (λ j. not (eqb (column_at l.list k) (column_at l.list j)))) ≡ true)
-
-abbrev pub decreases-loop-i : goal.decreases-loop-i
-decreases-loop-i l =
-    l.pairs - l.i
+    all_below l.i (λ k. all_below k (λ j. not (eqb (column_at l.list k) (column_at l.list j)))) ≡ true

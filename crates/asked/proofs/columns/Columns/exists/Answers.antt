@@ -1,6 +1,6 @@
 use borrow.Author.Tests.{le-leb, lt-leb}
 use Rattle.model.specs.Description.{between}
-use Rattle.asked.proofs.pairs.exists.Goals as goal
+use Rattle.asked.proofs.columns.Columns.exists.Goals as goal
 
 pub returns-then-column-ge1 : goal.returns-then-column-ge1
 unfolding between

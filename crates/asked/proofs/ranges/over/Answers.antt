@@ -1,6 +1,0 @@
-use mathlib.Core.Path.{◌∙◌}
-use Rattle.asked.proofs.Levelled.{over-entry}
-use Rattle.asked.proofs.ranges.over.Goals as goal
-
-pub returns : goal.returns
-returns c = c.over.ensures ∙ over-entry _ _ c.requires _ _
