@@ -28,8 +28,7 @@ pub fn names(
         return true;
     }
     let target = description.refers[relation] as usize;
-    let part = lay(description, target);
-    cells::search::find(values, description, target, part, level, key) < part.rows
+    lay(description, target).find(values, level, key).is_some()
 }
 
 // Whether a reference that is listed is null or has its row at a level.
@@ -48,10 +47,8 @@ pub fn listed(
     if column == 0 {
         return true;
     }
-    let at = find(list, column);
-    if list.len() / 2 <= at {
-        return true;
+    match find(list, column) {
+        Some(at) => names(values, description, relation, level, list[2 * at + 1]),
+        None => true,
     }
-    let key = list[2 * at + 1];
-    names(values, description, relation, level, key)
 }

@@ -1,18 +1,20 @@
 -- What UPDATE and DELETE do, where the rows that meet the conditions are chosen.
 -- Assumes nothing: these are definitions and statements.
 use Rattle.std.specs.Prelude.{◌≡◌, Bool, true, false, not, ◌&&◌, ◌≢◌, List, ℕ, suc, ◌≤◌, ◌<◌, eqb, ltb, length, get_or, if◌then◌else◌}
-use Rattle.std.proofs.Math.Option.{some}
+use Rattle.std.proofs.Math.Option.{none, some}
 use Rattle.bounded.specs.Bounded.{any_below}
 use Rattle.model.specs.declared.Description.{Description}
 use Rattle.model.specs.Description.{row_count, column_count, foreign_of, refers_of}
 use Rattle.model.specs.Tables.{Row, nocell, norow, seek}
 use Rattle.model.specs.Buffers.{holding, state_of}
-use Rattle.model.specs.Listed.{pairs, column_at, lists}
+use Rattle.model.specs.Listed.{pairs, column_at, listed}
 use Rattle.model.specs.Effect.{Rows, Effect, keep, only}
 use Rattle.model.specs.Update.{set_in, take_in}
 use Rattle.model.specs.Run.{left}
 use Rattle.cells.specs.Changed.{value_at, key_place}
 use Rattle.cells.specs.Stored.{LevelBecomes, RowBecomes}
+use Rattle.above.specs.declared.plan.Change.{Change}
+use Rattle.above.specs.declared.plan.Change.TheVariants as Changes
 use Rattle.above.specs.Facts.{chosen_at, with_rows}
 
 -- ---- what is listed
@@ -23,14 +25,14 @@ pub record Listing (m : ℕ) (list : List ℕ) : Type 0 where
   pub most : (i : ℕ) → i < pairs list → column_at list i ≤ m
   pub once : (i j : ℕ) → i < pairs list → j < i → column_at list i ≢ column_at list j
 
--- nine numbers, by column
-pub record ByColumn (f : ℕ → ℕ) (numbers : List ℕ) : Type 0 where
-  pub long : length numbers ≡ 9
-  pub right : (k : ℕ) → get_or numbers k 0 ≡ f k
+-- nine changes, by column
+pub record ByColumn (f : ℕ → Change) (changes : List Change) : Type 0 where
+  pub long : length changes ≡ 9
+  pub right : (k : ℕ) → get_or changes k Changes.Keep ≡ f k
 
--- 1 where column k is listed
-unfoldable pub kind_listed : List ℕ → ℕ → ℕ
-kind_listed list k = if lists list k then 1 else 0
+-- where column k is listed, it becomes that value, of class c
+unfoldable pub change_listed : ℕ → List ℕ → ℕ → Change
+change_listed c list k = elim (listed list k) [ none ↦ Changes.Keep | some v ↦ Changes.Take v c ]
 
 -- ---- rows that are chosen
 

@@ -10,113 +10,57 @@ ghost use Rattle.model.specs.Conditions.{conditions_formed};
 ghost use Rattle.model.specs.Insert.{listed_names};
 ghost use Rattle.model.specs.Update.{update_formed, update_tests, set_in};
 ghost use Rattle.cells.specs.Layout.{Lent, InLevel, InRow};
-ghost use Rattle.asked.specs.Facts.{Ordered, Related};
-ghost use Rattle.change.specs.Facts.{Standing, Naming, value_listed, met_rows, Updates, sight};
+ghost use Rattle.change.specs.Facts.{Standing, Naming, met_rows, Updates, sight};
 ghost use Rattle.change.specs.Tests.{ended};
-ghost use Rattle.chosen.specs.Choosing.{Listing, ByColumn, OnlyUsed, kind_listed, set_chosen, RowDone, RowsDone, Leaves};
+ghost use Rattle.chosen.specs.Choosing.{Listing, ByColumn, OnlyUsed, change_listed, set_chosen, RowDone, RowsDone, Leaves};
 
 use above::above;
-use above::plan::Plan;
-use asked::pairs::{Rule, each, find, once};
+use above::plan::{Change, Plan};
+use asked::columns::Columns;
+use asked::pairs::{Rule, find, once};
+use asked::table::Table;
 use cells::layout::Part;
-use cells::write::put;
 use change::named::listed;
-use change::tests::Test;
 use conditions::{chosen, count};
-use model::{Answer, Description, Fault};
+use model::{Answer, Fault};
 
 // Every column exists, none is listed twice, the key is not, and one is.
-pub fn formed(
-    list: &[u32],
-    description: Description,
-    order: [[bool; 16]; 16],
-    relation: usize,
-    columns: usize,
-) -> bool
-    requires ordered { Ordered description order }
-    requires related { Related description relation columns }
-    ensures { result ≡ update_formed description relation list.now }
+pub fn formed(list: &[u32], columns: Columns) -> bool
+    ensures { result ≡ update_formed columns.levels.description columns.relation list.now }
 {
-    if list.len() % 2 != 0 {
-        return false;
-    }
-    if !each(list, description, order, relation, columns, Rule::Column) {
-        return false;
-    }
-    if !once(list) {
-        return false;
-    }
-    if find(list, 1) < list.len() / 2 {
-        return false;
-    }
-    0 < list.len()
+    list.len() % 2 == 0
+        && columns.each(list, Rule::Column)
+        && once(list)
+        && find(list, 1).is_none()
+        && 0 < list.len()
 }
 
-// By column: 1 where it is listed.
-fn kinds(list: &[u32]) -> [u8; 9]
+// What becomes of the subject's cells above, by column: those that are listed become the subject's with that value.
+fn changes(list: &[u32], level: u8) -> [Change; 9]
     requires { Listing 8 list.now }
-    ensures { ByColumn (kind_listed list.now) result }
+    ensures { ByColumn (change_listed level list.now) result }
 {
-    let mut kinds = [0u8; 9];
-    let pairs = list.len() / 2;
-    let mut i = 0;
-    while i < pairs {
+    let mut changes = [Change::Keep; 9];
+    for i in 0..list.len() / 2 {
         let column = list[2 * i] as usize;
-        kinds[column] = 1;
-        i += 1;
+        changes[column] = Change::Take {
+            value: list[2 * i + 1],
+            class: level,
+        };
     }
-    kinds
-}
-
-// By column: the value that is listed.
-fn news(list: &[u32]) -> [u32; 9]
-    requires { Listing 8 list.now }
-    ensures { ByColumn (value_listed list.now) result }
-{
-    let mut news = [0u32; 9];
-    let pairs = list.len() / 2;
-    let mut i = 0;
-    while i < pairs {
-        let column = list[2 * i] as usize;
-        news[column] = list[2 * i + 1];
-        i += 1;
-    }
-    news
+    changes
 }
 
 // A row that meets the conditions gets (value, c) in each SET column.
-fn set(
-    values: &mut [u32],
-    classes: &mut [u8],
-    list: &[u32],
-    description: Description,
-    relation: usize,
-    part: Part,
-    level: usize,
-    row: usize,
-)
-    requires lent { Lent description relation part (length values.old) (length classes.old) × InRow description relation level row }
-    requires listing { Listing (column_count description relation) list.now × (level < 16) }
-    ensures { RowDone description relation level row (set_in level list.now) values.old classes.old values.new classes.new }
+fn set(values: &mut [u32], classes: &mut [u8], list: &[u32], part: Part, level: usize, row: usize)
+    requires lent { Lent part.description (length values.old) (length classes.old) × InRow part.description part.relation level row }
+    requires listing { Listing (column_count part.description part.relation) list.now × (level < 16) }
+    ensures { RowDone part.description part.relation level row (set_in level list.now) values.old classes.old values.new classes.new }
 {
-    let pairs = list.len() / 2;
-    let mut i = 0;
-    while i < pairs {
+    for i in 0..list.len() / 2 {
         let column = list[2 * i] as usize;
         let value = list[2 * i + 1];
-        put(
-            values,
-            classes,
-            description,
-            relation,
-            part,
-            level,
-            row,
-            column,
-            value,
-            level as u8,
-        );
-        i += 1;
+        part.put(values, classes, level, row, column, value, level as u8);
     }
 }
 
@@ -125,23 +69,18 @@ fn rows(
     values: &mut [u32],
     classes: &mut [u8],
     list: &[u32],
-    description: Description,
-    relation: usize,
     part: Part,
     chosen: [bool; 64],
     level: usize,
 )
-    requires lent { Lent description relation part (length values.old) (length classes.old) × InLevel description relation level }
-    requires listing { Listing (column_count description relation) list.now × (level < 16) }
-    ensures { RowsDone description relation level chosen (set_in level list.now) values.old classes.old values.new classes.new }
+    requires lent { Lent part.description (length values.old) (length classes.old) × InLevel part.description part.relation level }
+    requires listing { Listing (column_count part.description part.relation) list.now × (level < 16) }
+    ensures { RowsDone part.description part.relation level chosen (set_in level list.now) values.old classes.old values.new classes.new }
 {
-    let rows = part.rows;
-    let mut i = 0;
-    while i < rows {
-        if chosen[i] {
-            set(values, classes, list, description, relation, part, level, i);
+    for row in 0..part.rows {
+        if chosen[row] {
+            set(values, classes, list, part, level, row);
         }
-        i += 1;
     }
 }
 
@@ -150,67 +89,33 @@ fn write(
     values: &mut [u32],
     classes: &mut [u8],
     list: &[u32],
-    description: Description,
-    order: [[bool; 16]; 16],
-    relation: usize,
-    part: Part,
+    table: Table,
     chosen: [bool; 64],
     level: usize,
 )
-    requires standing { Standing description order relation level part values.old classes.old × OnlyUsed description relation level values.old classes.old chosen }
-    requires listing { Listing (column_count description relation) list.now × (lists list.now 1 ≡ false) }
-    ensures { Leaves description level (set_chosen description level relation list.now chosen)
+    requires standing { Standing table.part.description table.part.relation level values.old classes.old }
+    requires only_used { OnlyUsed table.part.description table.part.relation level values.old classes.old chosen }
+    requires listing { Listing (column_count table.part.description table.part.relation) list.now × (lists list.now 1 ≡ false) }
+    ensures { Leaves table.part.description level (set_chosen table.part.description level table.part.relation list.now chosen)
         values.old classes.old values.new classes.new }
 {
-    let kinds = kinds(list);
-    let news = news(list);
-    let owners = [level as u8; 9];
+    let changes = changes(list, level as u8);
     let plan = Plan {
-        chosen: chosen,
-        gone: false,
-        kinds: kinds,
-        values: news,
-        classes: owners,
-    };
-    above(
-        values,
-        classes,
-        description,
-        order,
-        relation,
-        part,
-        plan,
-        level,
-    );
-    rows(
-        values,
-        classes,
-        list,
-        description,
-        relation,
-        part,
         chosen,
-        level,
-    );
+        gone: false,
+        changes,
+    };
+    above(values, classes, table, plan, level);
+    rows(values, classes, list, table.part, chosen, level);
 }
 
 // No row is met, or a reference that is listed is null or has its row.
-fn reference(
-    values: &[u32],
-    list: &[u32],
-    description: Description,
-    relation: usize,
-    level: usize,
-    count: u32,
-) -> bool
-    requires naming { Naming description relation level (length values.now) }
-    requires columns_listed { each_of (λ k v. is_column description relation k) list.now ≡ true }
-    ensures { (classes : List ℕ) → result ≡ (eqb count 0 || listed_names description level relation list.now (rows_of (state_of description (holding values.now classes)))) }
+fn reference(values: &[u32], list: &[u32], part: Part, level: usize, count: u32) -> bool
+    requires naming { Naming part.description part.relation level (length values.now) }
+    requires columns_listed { each_of (λ k v. is_column part.description part.relation k) list.now ≡ true }
+    ensures { (classes : List ℕ) → result ≡ (eqb count 0 || listed_names part.description level part.relation list.now (rows_of (state_of part.description (holding values.now classes)))) }
 {
-    if count == 0 {
-        return true;
-    }
-    listed(values, list, description, relation, level)
+    count == 0 || listed(values, list, part.description, part.relation, level)
 }
 
 // The tests, in their order, where `count` rows meet the conditions.
@@ -219,26 +124,22 @@ fn check(
     classes: &[u8],
     list: &[u32],
     conditions: &[u32],
-    description: Description,
-    order: [[bool; 16]; 16],
-    relation: usize,
-    part: Part,
+    table: Table,
     level: usize,
     count: u32,
-) -> Test
-    requires standing { Standing description order relation level part values.now classes.now × (update_formed description relation list.now ≡ true) }
-    requires counted { count ≡ met_rows description level relation conditions.now (sight description level values.now classes.now) }
-    ensures { result ≡ ended (update_tests description level relation list.now conditions.now (sight description level values.now classes.now)) }
+) -> Result<(), Fault>
+    requires standing { Standing table.part.description table.part.relation level values.now classes.now }
+    requires formed_list { update_formed table.part.description table.part.relation list.now ≡ true }
+    requires counted { count ≡ met_rows table.part.description level table.part.relation conditions.now (sight table.part.description level values.now classes.now) }
+    ensures { result ≡ ended (update_tests table.part.description level table.part.relation list.now conditions.now (sight table.part.description level values.now classes.now)) }
 {
-    let columns = part.columns;
-    let rule = Rule::Takes { level: level };
-    if !each(list, description, order, relation, columns, rule) {
-        return Test::Failed(Fault::Range);
+    if !table.columns().each(list, Rule::Takes { level }) {
+        return Err(Fault::Range);
     }
-    if !reference(values, list, description, relation, level, count) {
-        return Test::Failed(Fault::Reference);
+    if !reference(values, list, table.part, level, count) {
+        return Err(Fault::Reference);
     }
-    Test::Passed
+    Ok(())
 }
 
 // The tests; then the rows above, and the rows at the subject's level.
@@ -247,52 +148,17 @@ pub fn update(
     classes: &mut [u8],
     list: &[u32],
     conditions: &[u32],
-    description: Description,
-    order: [[bool; 16]; 16],
-    relation: usize,
-    part: Part,
+    table: Table,
     level: usize,
 ) -> Answer
-    requires standing { Standing description order relation level part values.old classes.old }
-    requires formed_list { (update_formed description relation list.now ≡ true) × (conditions_formed description relation conditions.now ≡ true) }
-    ensures { Updates description level relation list.now conditions.now values.old classes.old values.new classes.new result }
+    requires standing { Standing table.part.description table.part.relation level values.old classes.old }
+    requires formed_list { (update_formed table.part.description table.part.relation list.now ≡ true) × (conditions_formed table.part.description table.part.relation conditions.now ≡ true) }
+    ensures { Updates table.part.description level table.part.relation list.now conditions.now values.old classes.old values.new classes.new result }
 {
-    let chosen = chosen(
-        values,
-        classes,
-        conditions,
-        description,
-        order,
-        relation,
-        part,
-        level,
-    );
+    let part = table.part;
+    let chosen = chosen(values, classes, conditions, part, table.order, level);
     let count = count(chosen, part.rows);
-    let test = check(
-        values,
-        classes,
-        list,
-        conditions,
-        description,
-        order,
-        relation,
-        part,
-        level,
-        count,
-    );
-    if let Test::Failed(fault) = test {
-        return Answer::Refused(fault);
-    }
-    write(
-        values,
-        classes,
-        list,
-        description,
-        order,
-        relation,
-        part,
-        chosen,
-        level,
-    );
-    Answer::Done { count: count }
+    check(values, classes, list, conditions, table, level, count)?;
+    write(values, classes, list, table, chosen, level);
+    Ok(count)
 }
