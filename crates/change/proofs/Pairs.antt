@@ -6,8 +6,11 @@ use mathlib.Core.Bool.{Bool, true}
 use mathlib.Core.List.{List}
 use mathlib.Core.Option.{Option, none, some}
 use native.Mathlib.Nat.{lt_irrefl}
+use native.Mathlib.Omega.{arith}
 use lib.ListN.{length, get_or}
 use borrow.Author.Tests.{lt-ltb, le-ltb}
+use Rattle.std.specs.Prelude.{Some, None}
+use Rattle.bounded.proofs.Found.{some-below, none-below}
 use Rattle.bounded.proofs.Reflection.{of-true}
 use Rattle.model.specs.declared.Description.{Description}
 use Rattle.model.specs.Description.{is_column, foreign_of}
@@ -22,32 +25,37 @@ use Rattle.change.specs.Facts.{value_listed}
 
 -- ---- what is listed
 
-module _ (list : List ℕ) (k : ℕ) {i : ℕ} (F : Found list k i) where
-  pub listed-none : length list / 2 ≤ i → listed list k ≡ none
-  unfolding listed pairs
-  listed-none h = rw (← F.is, le-ltb i (length list / 2) h)
+module _ (list : List ℕ) (k : ℕ) where
+  pub listed-none : Found list k None → listed list k ≡ none
+  unfolding listed
+  listed-none F = let h = none-below _ _ F in rw (le-ltb _ _ h)
 
-  pub listed-some : i < length list / 2 → listed list k ≡ some (get_or list (2 * i + 1) 0)
-  unfolding listed pairs second_at
-  listed-some h = rw (← F.is, lt-ltb i (length list / 2) h)
+  module _ {i : ℕ} (F : Found list k (Some i)) where
+    pub pair-there : i < length list / 2
+    unfolding pairs
+    pair-there = let f = some-below _ _ F in omega (arith, f)
+
+    pub listed-some : listed list k ≡ some (get_or list (2 * i + 1) 0)
+    unfolding listed second_at
+    listed-some = let f = some-below _ _ F in rw (lt-ltb _ _ f.1, ← f.0)
 
   -- its value and class in a new row
-  pub value_none : length list / 2 ≤ i → 0 ≡ value_listed list k
+  pub value_none : Found list k None → 0 ≡ value_listed list k
   unfolding value_listed
-  value_none h = rw (listed-none h, value_listed)
+  value_none F = rw (listed-none F, value_listed)
 
-  pub value-some : i < length list / 2 → get_or list (2 * i + 1) 0 ≡ value_listed list k
+  pub value-some : {i : ℕ} → Found list k (Some i) → get_or list (2 * i + 1) 0 ≡ value_listed list k
   unfolding value_listed
-  value-some h = rw (listed-some h, value_listed)
+  value-some F = rw (listed-some F, value_listed)
 
   module _ (d : Description) (c r : ℕ) where
-    pub class-some : i < length list / 2 → c ≡ (new_row d c r list k).class
+    pub class-some : {i : ℕ} → Found list k (Some i) → c ≡ (new_row d c r list k).class
     unfolding new_row
-    class-some h = rw (listed-some h, new_row)
+    class-some F = rw (listed-some F, new_row)
 
-    pub class-none : length list / 2 ≤ i → {x : ℕ} → x ≡ (own_null d r k c).class → x ≡ (new_row d c r list k).class
+    pub class-none : Found list k None → {x : ℕ} → x ≡ (own_null d r k c).class → x ≡ (new_row d c r list k).class
     unfolding new_row
-    class-none h e = rw (listed-none h, new_row) e
+    class-none F e = rw (listed-none F, new_row) e
 
 -- ---- the reference among it
 
@@ -68,9 +76,9 @@ module _ (d : Description) (c r : ℕ) (list : List ℕ) (T : Tables) where
       go none e = names-by (sym z) e
       go (some v) e = absurd (lt_irrefl 0 (of-true (column-r d r 0) (each-listed (λ k v. is_column d r k) list 0 v h e)).0)
 
-  module _ {k i : ℕ} (f : k ≡ foreign_of d r) (F : Found list k i) where
-    pub names-unlisted : length list / 2 ≤ i → true ≡ listed_names d c r list T
-    names-unlisted h = names-by f (listed-none list k F h)
+  module _ {k : ℕ} (f : k ≡ foreign_of d r) where
+    pub names-unlisted : Found list k None → true ≡ listed_names d c r list T
+    names-unlisted F = names-by f (listed-none list k F)
 
-    pub names-listed : i < length list / 2 → {b : Bool} → b ≡ names_row d c r T (get_or list (2 * i + 1) 0) → b ≡ listed_names d c r list T
-    names-listed h e = e ∙ names-by f (listed-some list k F h)
+    pub names-listed : {i : ℕ} → Found list k (Some i) → {b : Bool} → b ≡ names_row d c r T (get_or list (2 * i + 1) 0) → b ≡ listed_names d c r list T
+    names-listed F e = e ∙ names-by f (listed-some list k F)

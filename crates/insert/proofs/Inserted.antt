@@ -10,10 +10,13 @@ use mathlib.Core.Option.{Option, none, some}
 use lib.Dec.{eqb, ltb}
 use lib.ListN.{length}
 use borrow.Author.Tests.{eq-eqb, ne_eqb, eqb-true, ltb-true}
+use Rattle.bounded.specs.Bounded.{some_below}
 use Rattle.bounded.proofs.Cases.{cases, clash}
 use Rattle.bounded.proofs.Reflection.{is_false, of-true, of-false, bool-r, not-r, and_r, eqb-r}
 use Rattle.model.specs.declared.Description.{Description}
-use Rattle.std.specs.Prelude.{Ok, Err}
+use Rattle.model.specs.declared.Fault.{Fault}
+use Rattle.model.specs.declared.Fault.TheVariants as Faults
+use Rattle.std.specs.Prelude.{Ok, Err, Some, None, Option as Opt, is_some, take}
 use Rattle.model.specs.Description.{between, is_column, column_count, in_range}
 use Rattle.model.specs.Tables.{Row, State, rows_of, cell, nocell, own_null, used, at}
 use Rattle.model.specs.Buffers.{Buffers, holding, inside, state_of}
@@ -24,8 +27,8 @@ use Rattle.model.specs.Insert.{key_listed, insert_formed, insert_tests, new_row,
 use Rattle.model.specs.Run.{first_fault, left}
 use Rattle.model.proofs.Sound.{between-r, column-r}
 use Rattle.model.proofs.Border.{state-framed}
+use Rattle.cells.specs.Layout.{Row as Found}
 use Rattle.cells.specs.Changed.{key_place, listed_row, change_level, with_row}
-use Rattle.cells.specs.declared.layout.Part.{Part}
 use Rattle.cells.proofs.Cells.{state-path}
 use Rattle.asked.specs.declared.pairs.Rule.TheVariants as Rules
 use Rattle.asked.specs.Facts.{rule_of}
@@ -33,9 +36,10 @@ use Rattle.theory.proofs.Tests.{pass}
 use Rattle.theory.proofs.Listed.{each-listed}
 use Rattle.theory.proofs.Seen.{seen_at, seen-own}
 use Rattle.change.specs.Facts.{Standing, Filled, Inserts, does, sight, value_listed}
+use Rattle.change.specs.Tests.{ended}
 use Rattle.change.proofs.Answers.{left-own, left-still}
 use Rattle.change.proofs.Known.{own-over}
-use Rattle.change.proofs.Sought.{used-is}
+use Rattle.change.proofs.Sought.{used-some}
 
 -- the key that is listed
 pub key-listed : (list : List ℕ) → value_listed list 1 ≡ key_listed list
@@ -48,24 +52,11 @@ module _ (d : Description) (r : ℕ) (list : List ℕ) where
   abbrev formed : Bool
   formed = insert_formed d r list
 
-  pub formed-cut : length list % 2 ≢ 0 → false ≡ formed
-  unfolding insert_formed whole
-  formed-cut n = rw (ne_eqb (length list % 2) 0 n)
-
-  module _ (w : length list % 2 ≡ 0) {b : Bool} (e : b ≡ each (rule_of d r Rules.Column) list) where
-    formed-each : formed ≡ (b && (columns_once list && not (eqb (key_listed list) 0)))
-    unfolding insert_formed whole rule_of
-    formed-each = rw (eq-eqb (length list % 2) 0 w, e)
-
-    pub formed-missing : b ≡ false → false ≡ formed
-    formed-missing t = rw (formed-each, t)
-
-    module _ (t : b ≡ true) {o : Bool} (f : o ≡ columns_once list) where
-      pub formed-twice : o ≡ false → false ≡ formed
-      formed-twice u = rw (formed-each, t, ← f, u)
-
-      pub formed-key : o ≡ true → {v : ℕ} → v ≡ value_listed list 1 → not (eqb v 0) ≡ formed
-      formed-key u e = rw (formed-each, t, ← f, u, e, key-listed list)
+  -- test after test
+  pub formed-tests : {a b : Bool} {v : ℕ} → a ≡ each (rule_of d r Rules.Column) list → b ≡ columns_once list → v ≡ value_listed list 1
+      → (eqb (length list % 2) 0 && (a && (b && not (eqb v 0)))) ≡ formed
+  unfolding insert_formed whole rule_of
+  formed-tests e f g = rw (e, f, g, key-listed list)
 
 -- ---- the new row
 
@@ -155,42 +146,43 @@ module _ (d : Description) (r : ℕ) (list : List ℕ) (h : insert_formed d r li
   formed-keyed : key_listed list ≢ 0
   formed-keyed = says.1.1.1
 
-module _ {d : Description} {order : List (List Bool)} {r c : ℕ} {p : Part} {vs cs : List ℕ} (K : Standing d order r c p vs cs) (list : List ℕ)
-    (formed-is : insert_formed d r list ≡ true) where
+module _ {d : Description} {r c : ℕ} {vs cs : List ℕ} (K : Standing d r c vs cs) (list : List ℕ) (formed-is : insert_formed d r list ≡ true) where
   abbrev T : State
   T = state_of d (holding vs cs)
 
   abbrev seeing : State
   seeing = sight d c vs cs
 
+  abbrev tests : List (Bool × Fault)
+  tests = insert_tests d c r list seeing
+
   own : (seeing c).rows ≡ (T c).rows
   own = seen-own d T c (own-over K)
 
   -- ---- each test is what was asked
 
-  pub taken-test : {key i : ℕ} → key ≡ value_listed list 1 → i ≡ key_place d vs r c key → not (used (at d (rows_of seeing) r c (key_listed list))) ≡ not (ltb i p.rows)
-  taken-test {i = i} x y =
+  pub taken-test : {key : ℕ} {o : Opt ℕ} → key ≡ value_listed list 1 → Found d r (key_place d vs r c key) o → not (used (at d (rows_of seeing) r c (key_listed list))) ≡ not (is_some o)
+  taken-test x y =
       ap not
       (ap used (seen_at d T c r c (key_listed list) (own-over K))
-      ∙ sym (used-is d vs cs r c (key_listed list) (formed-keyed d r list formed-is) (y ∙ ap (key_place d vs r c) (x ∙ key-listed list)))
-      ∙ ap (ltb i) (sym K.laid.rows))
+      ∙ sym (used-some d vs cs r c (key_listed list) (formed-keyed d r list formed-is) (y ∙ ap (some_below (row_count d r)) (ap (key_place d vs r c) (x ∙ key-listed list)))))
 
-  module _ {row : ℕ} (q : row ≡ lowest_empty d (T c).rows r) where
-    pub room-test : has_room d (seeing c).rows r ≡ ltb row p.rows
-    unfolding has_room
-    room-test = rw (own, ← q, K.laid.rows)
+  module _ {o : Opt ℕ} (q : Found d r (lowest_empty d (T c).rows r) o) where
+    -- the last test
+    pub full : Ok tt ≡ ended (take 3 tests) → o ≡ None → first_fault tests ≡ some Faults.Full
+    unfolding insert_tests has_room
+    full p n = ?
 
-    -- where no test fails there is a row
-    pub room : first_fault (insert_tests d c r list seeing) ≡ none → row < p.rows
-    unfolding insert_tests fault_number
-    room n = ltb-true _ _ (sym room-test ∙ pass _ n 13)
+    pub room : {row : ℕ} → Ok tt ≡ ended (take 3 tests) → o ≡ Some row → first_fault tests ≡ none
+    unfolding insert_tests has_room
+    room p n = ?
 
-    pub insert-done : first_fault (insert_tests d c r list seeing) ≡ none → {news owners us ds : List ℕ} → Filled p.columns (value_listed list) news
-        → Filled p.columns (λ k. (new_row d c r list k).class) owners
-        → state_of d (holding us ds) ≡ change_level c (with_row (column_count d r) r row (listed_row news owners)) T
-        → Inserts d c r list vs cs us ds (Ok 1)
-    insert-done n {news} {owners} F G m =
-        does n refl
-        (m
-        ∙ insert-left d c r list (holding vs cs) (seeing c).rows row (listed_row news owners) own (q ∙ ap (λ (N : Rows). lowest_empty d N r) (sym own))
-        (formed-columns d r list formed-is) (new-filled d c r list news owners (rw K.laid.columns at F) (rw K.laid.columns at G)))
+  pub insert-done : {row : ℕ} → row ≡ lowest_empty d (T c).rows r → first_fault tests ≡ none → {news owners us ds : List ℕ} → Filled (column_count d r) (value_listed list) news
+      → Filled (column_count d r) (λ k. (new_row d c r list k).class) owners
+      → state_of d (holding us ds) ≡ change_level c (with_row (column_count d r) r row (listed_row news owners)) T
+      → Inserts d c r list vs cs us ds (Ok 1)
+  insert-done {row} q n {news} {owners} F G m =
+      does n refl
+      (m
+      ∙ insert-left d c r list (holding vs cs) (seeing c).rows row (listed_row news owners) own (q ∙ ap (λ (N : Rows). lowest_empty d N r) (sym own))
+      (formed-columns d r list formed-is) (new-filled d c r list news owners F G))

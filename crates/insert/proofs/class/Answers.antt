@@ -1,8 +1,8 @@
 use Rattle.change.proofs.Pairs.{class-some, class-none}
 use Rattle.insert.proofs.class.Goals as goal
 
-pub returns-then-find-list : goal.returns-then-find-list
-returns-then-find-list c = class-some _ _ c.find.ensures _ _ _ c.if-find-list.true
+pub returns-in-Some : goal.returns-in-Some
+returns-in-Some c = class-some _ _ _ _ _ c.in-Some.ensures
 
-pub returns : goal.returns
-returns c = class-none _ _ c.find.ensures _ _ _ c.if-find-list.false c.null.ensures
+pub returns-in-None : goal.returns-in-None
+returns-in-None c = class-none _ _ _ _ _ c.in-None.ensures c.null.ensures

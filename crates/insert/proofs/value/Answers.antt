@@ -1,8 +1,21 @@
-use Rattle.change.proofs.Pairs.{value_none, value-some}
+use native.Mathlib.Omega.{arith}
+use Rattle.change.proofs.Pairs.{pair-there, value_none, value-some}
 use Rattle.insert.proofs.value.Goals as goal
 
-pub returns-then-list-at : goal.returns-then-list-at
-returns-then-list-at c = value_none _ _ c.find-at.ensures c.if-list-at.true
+pub overflow_mul-at : goal.overflow_mul-at
+overflow_mul-at c = omega (arith, pair-there _ _ c.in-Some.ensures)
 
-pub returns : goal.returns
-returns c = value-some _ _ c.find-at.ensures c.if-list-at.false
+pub overflow_add-at : goal.overflow_add-at
+overflow_add-at c = omega (arith, pair-there _ _ c.in-Some.ensures)
+
+pub offset_bounds-list-at : goal.offset_bounds-list-at
+offset_bounds-list-at c = omega (arith, pair-there _ _ c.in-Some.ensures)
+
+pub bounds-list-at : goal.bounds-list-at
+bounds-list-at c = omega (arith, pair-there _ _ c.in-Some.ensures)
+
+pub returns-in-Some : goal.returns-in-Some
+returns-in-Some c = value-some _ _ c.in-Some.ensures
+
+pub returns-in-None : goal.returns-in-None
+returns-in-None c = value_none _ _ c.in-None.ensures

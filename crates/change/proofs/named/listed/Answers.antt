@@ -1,7 +1,7 @@
 use mathlib.Core.Path.{sym, ◌∙◌}
 use native.Mathlib.Omega.{arith}
 use Rattle.cells.proofs.Counts.{relation-few, foreign-is}
-use Rattle.change.proofs.Pairs.{names-unreferring, names-unlisted, names-listed}
+use Rattle.change.proofs.Pairs.{pair-there, names-unreferring, names-unlisted, names-listed}
 use Rattle.change.proofs.named.listed.Goals as goal
 
 pub offset_bounds-description-relation : goal.offset_bounds-description-relation
@@ -16,16 +16,26 @@ pub returns-then-column-eq0 : goal.returns-then-column-eq0
 returns-then-column-eq0 c = let k = c.requires.naming in
     λ cs. names-unreferring _ _ _ _ _ c.requires.columns_listed (sym (foreign-is _ _ k.relation) ∙ c.if-column-eq0.true)
 
-pub returns-then-list-at : goal.returns-then-list-at
-returns-then-list-at c = let k = c.requires.naming in
-    λ cs. names-unlisted _ _ _ _ _ (foreign-is _ _ k.relation) c.find-at.ensures c.if-list-at.true
+pub overflow_mul-at : goal.overflow_mul-at
+overflow_mul-at c = omega (arith, pair-there _ _ c.in-Some.ensures)
+
+pub overflow_add-at : goal.overflow_add-at
+overflow_add-at c = omega (arith, pair-there _ _ c.in-Some.ensures)
+
+pub offset_bounds-list-at : goal.offset_bounds-list-at
+offset_bounds-list-at c = omega (arith, pair-there _ _ c.in-Some.ensures)
+
+pub bounds-list-at : goal.bounds-list-at
+bounds-list-at c = omega (arith, pair-there _ _ c.in-Some.ensures)
 
 pub names-requires : goal.names-requires
 names-requires c = let k = c.requires.naming in
     record { naming = k; relation_nonzero = λ z. c.if-column-eq0.false (foreign-is _ _ k.relation ∙ z) }
 
-pub returns : goal.returns
-returns c = let k = c.requires.naming in
-    λ cs.
-    names-listed _ _ _ _ _ (foreign-is _ _ k.relation) c.find-at.ensures c.if-list-at.false
-    (c.names.ensures cs)
+pub returns-in-Some : goal.returns-in-Some
+returns-in-Some c = let k = c.requires.naming in
+    λ cs. names-listed _ _ _ _ _ (foreign-is _ _ k.relation) c.in-Some.ensures (c.names.ensures cs)
+
+pub returns-in-None : goal.returns-in-None
+returns-in-None c = let k = c.requires.naming in
+    λ cs. names-unlisted _ _ _ _ _ (foreign-is _ _ k.relation) c.in-None.ensures

@@ -1,3 +1,4 @@
+use mathlib.Core.Path.{◌∙◌}
 use native.Mathlib.Omega.{arith}
 use Rattle.cells.proofs.Counts.{relation-few, in-level, refers-is, target-relation}
 use Rattle.change.proofs.Sought.{names-null, names-sought}
@@ -12,14 +13,16 @@ offset_bounds-description-relation c = omega (arith, relation-few _ c.requires.n
 pub bounds-description-relation : goal.bounds-description-relation
 bounds-description-relation c = omega (arith, relation-few _ c.requires.naming.sound-is _ c.requires.naming.relation)
 
-pub lay-part-requires : goal.lay-part-requires
-lay-part-requires c = record { sound_description = c.requires.naming.sound-is; known_relation = target-relation _ c.requires.naming.sound-is _ c.requires.naming.relation c.requires.relation_nonzero }
+pub lay-requires : goal.lay-requires
+lay-requires c = record { sound_description = c.requires.naming.sound-is; known_relation = target-relation _ c.requires.naming.sound-is _ c.requires.naming.relation c.requires.relation_nonzero }
 
 pub find-requires : goal.find-requires
-find-requires c = let k = c.requires.naming in record { sized = record { laid = c.lay-part.ensures; size = k.long }; in_level = in-level _ k.sound-is _ (target-relation _ k.sound-is _ k.relation c.requires.relation_nonzero) _ k.level }
+find-requires c = let k = c.requires.naming in record {
+  sized = rw c.lay.ensures.described k.long;
+  in_level = rw (c.lay.ensures.described, c.lay.ensures.of_relation) (in-level _ k.sound-is _ (target-relation _ k.sound-is _ k.relation c.requires.relation_nonzero) _ k.level);
+}
 
 pub returns : goal.returns
 returns c = let k = c.requires.naming in
-    λ cs.
-    names-sought _ _ cs _ _ _ c.if-key-eq0.false (refers-is _ _ k.relation) c.find.ensures.is
-    c.lay-part.ensures.rows
+    let f = rw (c.lay.ensures.described, c.lay.ensures.of_relation) at c.find.ensures in
+    λ cs. c.is_some.ensures ∙ names-sought _ _ cs _ _ _ c.if-key-eq0.false (refers-is _ _ k.relation) f
