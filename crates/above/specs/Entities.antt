@@ -5,7 +5,6 @@ use Rattle.model.specs.declared.Description.{Description}
 use Rattle.model.specs.Description.{row_count}
 use Rattle.model.specs.Tables.{State, rows_of, same, at}
 use Rattle.model.specs.Buffers.{holding, state_of}
-use Rattle.cells.specs.declared.layout.Part.{Part}
 use Rattle.cells.specs.Layout.{Lent}
 use Rattle.above.specs.declared.plan.Plan.{Plan}
 use Rattle.above.specs.Facts.{Working, Planned, touched_by}
@@ -13,8 +12,8 @@ use Rattle.above.specs.Facts.{Working, Planned, touched_by}
 -- ---- what is known
 
 -- buffers that are long enough, and tables in them that a plan can be carried through
-abbrev pub Carrying : Description → List (List Bool) → ℕ → Part → ℕ → List ℕ → List ℕ → Type 0
-Carrying d order r p c vs cs = Lent d r p (length vs) (length cs) × Working d order r c (state_of d (holding vs cs))
+abbrev pub Carrying : Description → ℕ → ℕ → List ℕ → List ℕ → Type 0
+Carrying d r c vs cs = Lent d (length vs) (length cs) × Working d r c (state_of d (holding vs cs))
 
 -- a plan for the rows at c
 abbrev pub PlannedIn : Description → ℕ → ℕ → Plan → List ℕ → List ℕ → Type 0

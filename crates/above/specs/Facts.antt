@@ -2,15 +2,17 @@
 -- Assumes nothing: these are definitions and statements.
 use Rattle.std.specs.Prelude.{◌≡◌, Bool, true, false, not, ◌&&◌, ◌≢◌, List, ℕ, ◌≤◌, ◌<◌, eqb, ltb, length, get_or, set, if◌then◌else◌}
 use Rattle.std.proofs.Math.Option.{some}
-use Rattle.level.specs.Order.{order_of}
 use Rattle.model.specs.declared.Description.{Description}
 use Rattle.model.specs.Description.{between, is_relation, row_count, column_count, foreign_of, refers_of, total_of, sound}
 use Rattle.model.specs.Tables.{Cell, Row, cell, nocell, same, used, Level, State, rows_of, place, seek, at, own_null}
-use Rattle.model.specs.Effect.{Rows, Change, keep, take, only, Above, agrees}
+use Rattle.model.specs.Effect as Effect
+use Rattle.model.specs.Effect.{Rows, keep, take, only, Above, agrees}
 use Rattle.model.specs.Run.{left}
 use Rattle.cells.specs.Layout.{InLevel}
 use Rattle.cells.specs.Changed.{value_at}
 use Rattle.above.specs.declared.plan.Plan.{Plan}
+use Rattle.above.specs.declared.plan.Change.{Change}
+use Rattle.above.specs.declared.plan.Change.TheVariants as Changes
 
 -- ---- what is known
 
@@ -43,12 +45,19 @@ pub record Referring (d : Description) (r s c l : ℕ) : Type 0 where
 unfoldable pub chosen_at : ℕ → List Bool → (ℕ → Row) → ℕ → Bool
 chosen_at n chosen B v = ltb (place n B v) n && get_or chosen (place n B v) false
 
+-- what becomes of a cell of the subject's class, in the model's words
+unfoldable pub effect_of : Change → Effect.Change
+effect_of Changes.Keep = keep
+effect_of (Changes.Take v o) = take v
+effect_of (Changes.Only v o) = only (cell v o)
+
+-- what a plan makes of a cell in column k
+abbrev pub planned : Plan → ℕ → Change
+planned P k = get_or P.changes k Changes.Keep
+
 -- what becomes of a cell of class c in column k
-unfoldable pub change_of : Plan → ℕ → Change
-change_of P k =
-    if eqb (get_or P.kinds k 0) 1 then take (get_or P.values k 0)
-    else if eqb (get_or P.kinds k 0) 2 then only (cell (get_or P.values k 0) (get_or P.classes k 0))
-    else keep
+unfoldable pub change_of : Plan → ℕ → Effect.Change
+change_of P k = effect_of (planned P k)
 
 -- the plan for relation r as what a statement at c does above, where B are the rows at c
 unfoldable pub above_of : Description → ℕ → ℕ → Plan → Rows → Above
@@ -74,20 +83,22 @@ touched_by n chosen B R =
     used R && (chosen_at n chosen B (R 1).value && eqb (B (place n B (R 1).value) 1).class (R 1).class)
 
 -- what a cell of the subject's class becomes
-unfoldable pub becomes : ℕ → Cell → Cell → Cell
-becomes kind n x = if eqb kind 1 then n else if eqb kind 2 then (if same x n then x else cell 0 x.class) else x
+unfoldable pub becomes : Change → Cell → Cell
+becomes Changes.Keep x = x
+becomes (Changes.Take v o) x = cell v o
+becomes (Changes.Only v o) x = if same x (cell v o) then x else cell 0 x.class
 
 -- what any cell becomes: one of another class than c stays
-unfoldable pub turned_by : ℕ → Cell → ℕ → Cell → Cell
-turned_by kind n c x = if eqb x.class c then becomes kind n x else x
+unfoldable pub turned_by : Change → ℕ → Cell → Cell
+turned_by h c x = if eqb x.class c then becomes h x else x
 
--- what the cell in column k becomes, by a plan's kinds, values and classes
-unfoldable pub turned : List ℕ → List ℕ → List ℕ → ℕ → ℕ → Cell → Cell
-turned kinds values classes c k x = turned_by (get_or kinds k 0) (cell (get_or values k 0) (get_or classes k 0)) c x
+-- what the cell in column k becomes, by a plan's changes
+unfoldable pub turned : List Change → ℕ → ℕ → Cell → Cell
+turned changes c k x = turned_by (get_or changes k Changes.Keep) c x
 
 unfoldable pub row_after : ℕ → Plan → ℕ → (ℕ → Row) → Row → Row
 row_after n P c B R k =
-    if touched_by n P.chosen B R then (if P.gone && eqb (R 1).class c then nocell else turned P.kinds P.values P.classes c k (R k)) else R k
+    if touched_by n P.chosen B R then (if P.gone && eqb (R 1).class c then nocell else turned P.changes c k (R k)) else R k
 
 -- a level with the first n rows of relation r, m columns each, as F has them
 unfoldable pub with_rows : ℕ → ℕ → ℕ → (ℕ → Row) → Level → Level
@@ -124,15 +135,17 @@ with_referrers n d r P c S l B =
 -- ---- one level
 
 -- a reference that is taken names another entity at l than at c
+unfoldable pub lost_as : Description → ℕ → ℕ → State → ℕ → Change → Bool
+lost_as d r c S l Changes.Keep = false
+lost_as d r c S l (Changes.Take v o) = not (eqb v 0) && not (agrees d (at d (rows_of S)) r l c v)
+lost_as d r c S l (Changes.Only v o) = false
+
 unfoldable pub lost_by : Description → ℕ → Plan → ℕ → State → ℕ → Bool
-lost_by d r P c S l =
-    let v = get_or P.values (foreign_of d r) 0 in
-    not (eqb (foreign_of d r) 0) && (eqb (get_or P.kinds (foreign_of d r) 0) 1 && (not (eqb v 0) && not (agrees d (at d (rows_of S)) r l c v)))
+lost_by d r P c S l = not (eqb (foreign_of d r) 0) && lost_as d r c S l (planned P (foreign_of d r))
 
 -- the plan with a null of class e in column k
 unfoldable pub handed : Plan → ℕ → ℕ → Plan
-handed P k e =
-    record { chosen = P.chosen; gone = P.gone; kinds = P.kinds; values = set P.values k 0; classes = set P.classes k e }
+handed P k e = record { chosen = P.chosen; gone = P.gone; changes = set P.changes k (Changes.Take 0 e) }
 
 -- the plan as it is at l
 unfoldable pub given_by : Description → ℕ → Plan → ℕ → State → ℕ → Plan
@@ -141,10 +154,9 @@ given_by d r P c S l =
 
 -- ---- the whole
 
--- a sound description, its order, a relation and a level; and what is used of legal tables: nothing outside, and no key twice at a level
-pub record Working (d : Description) (order : List (List Bool)) (r c : ℕ) (S : State) : Type 0 where
+-- a sound description, a relation and a level; and what is used of legal tables: nothing outside, and no key twice at a level
+pub record Working (d : Description) (r c : ℕ) (S : State) : Type 0 where
   pub sound-is : sound d ≡ true
-  pub order_is : order ≡ order_of d.labels d.levels
   pub relation : is_relation d r ≡ true
   pub level : c < d.levels
   pub outside : (s l i k : ℕ) → row_count d s ≤ i → (S l).rows s i k ≡ nocell
@@ -154,11 +166,10 @@ pub record Working (d : Description) (order : List (List Bool)) (r c : ℕ) (S :
 -- a plan: only rows in use are chosen, a cell of the subject's class that is taken is the subject's, and no key is taken
 pub record Planned (d : Description) (r c : ℕ) (P : Plan) (B : ℕ → Row) : Type 0 where
   pub chosen : length P.chosen ≡ 64
-  pub values : length P.values ≡ 9
-  pub classes : length P.classes ≡ 9
+  pub changes : length P.changes ≡ 9
   pub real : (i : ℕ) → i < row_count d r → get_or P.chosen i false ≡ true → (B i 1).value ≢ 0
-  pub own : (k : ℕ) → get_or P.kinds k 0 ≡ 1 → get_or P.classes k 0 ≡ c
-  pub key : get_or P.kinds 1 0 ≢ 1
+  pub own : (k v o : ℕ) → planned P k ≡ Changes.Take v o → o ≡ c
+  pub key : (v o : ℕ) → planned P 1 ≢ Changes.Take v o
 
 -- a level of a sound description, a relation and the buffers' lengths
 pub record Reaching (d : Description) (r c l m n : ℕ) : Type 0 where

@@ -14,7 +14,7 @@ use Rattle.above.specs.Facts.{turned, row_after, with_rows, row_unnamed, with_re
 -- a row's cells of the subject's class become what the plan makes of them, and all else stays
 abbrev pub CellsTurn : Description → ℕ → Plan → ℕ → ℕ → ℕ → List ℕ → List ℕ → List ℕ → List ℕ → Type 0
 CellsTurn d r P c l i vs cs =
-    RowBecomes d r l i (λ k. turned P.kinds P.values P.classes c k ((state_of d (holding vs cs) l).rows r i k)) vs cs
+    RowBecomes d r l i (λ k. turned P.changes c k ((state_of d (holding vs cs) l).rows r i k)) vs cs
 
 -- a row stays, is emptied, or its cells turn, as its entity has a chosen row at the subject's level; and all else stays
 abbrev pub RowTurns : Description → ℕ → Plan → ℕ → ℕ → ℕ → List ℕ → List ℕ → List ℕ → List ℕ → Type 0

@@ -1,5 +1,6 @@
 // Rows of one entity at two levels.
 ghost use Rattle.std.specs.Prelude.{◌≡◌, ◌≢◌, length, ◌<◌};
+ghost use Rattle.model.specs.Description.{row_count};
 ghost use Rattle.model.specs.Buffers.{holding, state_of};
 ghost use Rattle.cells.specs.Layout.{Sized, Lent, InLevel, InRow, Row};
 ghost use Rattle.cells.specs.Changed.{key_place};
@@ -7,126 +8,85 @@ ghost use Rattle.above.specs.Facts.{OneRow, gone_by};
 ghost use Rattle.above.specs.Entities.{touched_at, same_at};
 
 use crate::plan::Plan;
+use crate::reach::Reached;
 use cells::layout::Part;
-use cells::read::{class_at, value_at};
-use cells::search::find;
-use model::Description;
 
 // The row of a key at a level, looked for at `hint` first: entities tend to stand in the same row everywhere.
-fn near(
-    values: &[u32],
-    description: Description,
-    relation: usize,
-    part: Part,
-    level: usize,
-    key: u32,
-    hint: usize,
-) -> usize
-    requires sized { Sized description relation part (length values.now) × InRow description relation level hint }
-    requires one_row { OneRow description values.now relation level × (key ≢ 0) }
-    ensures { Row description relation (key_place description values.now relation level key) result }
+fn near(values: &[u32], part: Part, level: usize, key: u32, hint: usize) -> Option<usize>
+    requires sized { Sized part.description (length values.now) × InRow part.description part.relation level hint }
+    requires one_row { OneRow part.description values.now part.relation level × (key ≢ 0) }
+    ensures { Row part.description part.relation (key_place part.description values.now part.relation level key) result }
 {
-    if value_at(values, description, relation, part, level, hint, 1) == key {
-        return hint;
+    if part.value_at(values, level, hint, 1) == key {
+        return Some(hint);
     }
-    find(values, description, relation, part, level, key)
+    part.find(values, level, key)
 }
 
-// Whether the entity of a row has a chosen row at the subject's level.
-pub(crate) fn touched(
-    values: &[u32],
-    classes: &[u8],
-    description: Description,
-    relation: usize,
-    part: Part,
-    plan: Plan,
-    subject: usize,
-    level: usize,
-    row: usize,
-) -> bool
-    requires lent { Lent description relation part (length values.now) (length classes.now) × InRow description relation level row }
-    requires in_level { InLevel description relation subject × OneRow description values.now relation subject }
-    ensures { result ≡ touched_at description relation plan subject (state_of description (holding values.now classes.now)) level row }
-{
-    let key = value_at(values, description, relation, part, level, row, 1);
-    if key == 0 {
-        return false;
+impl Reached {
+    // Whether the entity of a row has a chosen row at the subject's level.
+    pub(crate) fn touched(self, values: &[u32], classes: &[u8], plan: Plan, row: usize) -> bool
+        requires lent { Lent self.part.description (length values.now) (length classes.now) × (row < row_count self.part.description self.part.relation) }
+        requires one_row { OneRow self.part.description values.now self.part.relation self.subject }
+        ensures { result ≡ touched_at self.part.description self.part.relation plan self.subject (state_of self.part.description (holding values.now classes.now)) self.level row }
+    {
+        let part = self.part;
+        let subject = self.subject as usize;
+        let key = part.value_at(values, self.level, row, 1);
+        if key == 0 {
+            return false;
+        }
+        let Some(own) = near(values, part, subject, key, row) else {
+            return false;
+        };
+        let chosen = plan.chosen;
+        if !chosen[own] {
+            return false;
+        }
+        let class = part.class_at(classes, self.level, row, 1);
+        part.class_at(classes, subject, own, 1) == class
     }
-    let rows = part.rows;
-    let chosen = plan.chosen;
-    let own = near(values, description, relation, part, subject, key, row);
-    if rows <= own {
-        return false;
-    }
-    if !chosen[own] {
-        return false;
-    }
-    let class = class_at(classes, description, relation, part, level, row, 1);
-    class_at(classes, description, relation, part, subject, own, 1) == class
-}
 
-// Whether the row with a key at a level is emptied: a chosen entity of the subject's own.
-pub(crate) fn gone(
-    values: &[u32],
-    classes: &[u8],
-    description: Description,
-    relation: usize,
-    part: Part,
-    plan: Plan,
-    subject: u8,
-    level: usize,
-    key: u32,
-) -> bool
-    requires lent { Lent description relation part (length values.now) (length classes.now) × InLevel description relation level }
-    requires in_level { InLevel description relation subject × (subject < 16) }
-    ensures { result ≡ gone_by description relation plan subject (state_of description (holding values.now classes.now)) level key }
-{
-    if !plan.gone {
-        return false;
+    // Whether the row with a key is emptied: a chosen entity of the subject's own.
+    pub(crate) fn gone(self, values: &[u32], classes: &[u8], plan: Plan, key: u32) -> bool
+        requires lent { Lent self.part.description (length values.now) (length classes.now) × (self.subject < 16) }
+        ensures { result ≡ gone_by self.part.description self.part.relation plan self.subject (state_of self.part.description (holding values.now classes.now)) self.level key }
+    {
+        if !plan.gone {
+            return false;
+        }
+        let part = self.part;
+        let subject = self.subject as usize;
+        let Some(own) = part.find(values, subject, key) else {
+            return false;
+        };
+        if !plan.chosen[own] {
+            return false;
+        }
+        if part.class_at(classes, subject, own, 1) != self.subject {
+            return false;
+        }
+        let Some(row) = part.find(values, self.level, key) else {
+            return false;
+        };
+        part.class_at(classes, self.level, row, 1) == self.subject
     }
-    let rows = part.rows;
-    let at = subject as usize;
-    let own = find(values, description, relation, part, at, key);
-    if rows <= own {
-        return false;
-    }
-    if !plan.chosen[own] {
-        return false;
-    }
-    if class_at(classes, description, relation, part, at, own, 1) != subject {
-        return false;
-    }
-    let row = find(values, description, relation, part, level, key);
-    if rows <= row {
-        return false;
-    }
-    class_at(classes, description, relation, part, level, row, 1) == subject
 }
 
 // Whether the rows with a key at two levels are one entity, or neither exists.
-pub fn agree(
-    values: &[u32],
-    classes: &[u8],
-    description: Description,
-    relation: usize,
-    part: Part,
-    one: usize,
-    other: usize,
-    key: u32,
-) -> bool
-    requires lent { Lent description relation part (length values.now) (length classes.now) × (key ≢ 0) }
-    requires in_level { InLevel description relation one × InLevel description relation other }
-    ensures { result ≡ same_at description relation (state_of description (holding values.now classes.now)) one other key }
+pub fn agree(values: &[u32], classes: &[u8], part: Part, one: usize, other: usize, key: u32) -> bool
+    requires lent { Lent part.description (length values.now) (length classes.now) × (key ≢ 0) }
+    requires in_level { InLevel part.description part.relation one × InLevel part.description part.relation other }
+    ensures { result ≡ same_at part.description part.relation (state_of part.description (holding values.now classes.now)) one other key }
 {
-    let rows = part.rows;
-    let here = find(values, description, relation, part, one, key);
-    let there = find(values, description, relation, part, other, key);
-    if rows <= here {
-        return rows <= there;
+    let here = part.find(values, one, key);
+    let there = part.find(values, other, key);
+    match (here, there) {
+        (None, None) => true,
+        (Some(here), Some(there)) => {
+            let class = part.class_at(classes, other, there, 1);
+            part.class_at(classes, one, here, 1) == class
+        }
+        _ => false,
     }
-    if rows <= there {
-        return false;
-    }
-    let class = class_at(classes, description, relation, part, other, there, 1);
-    class_at(classes, description, relation, part, one, here, 1) == class
 }
