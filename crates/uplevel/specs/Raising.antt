@@ -64,9 +64,9 @@ admitted d c r key given T =
     elim (own_of d c r key given T) [
       | None ↦ Err Faults.Absent
       | Some class ↦
-        if based d c r key T class
-        then (if several_based d c r key given T then Err Faults.Several else Ok (record { key = key; class = class }))
-        else Err Faults.Absent
+          if based d c r key T class
+          then (if several_based d c r key given T then Err Faults.Several else Ok (record { key = key; class = class }))
+          else Err Faults.Absent
     ]
 
 -- ---- the tests

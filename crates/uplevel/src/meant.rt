@@ -27,7 +27,8 @@ fn based(values: &[u32], classes: &[u8], table: Table, subject: usize, entity: E
         return false;
     }
     let part = table.part;
-    part.entity(values, classes, level, entity.key, entity.class).is_some()
+    part.entity(values, classes, level, entity.key, entity.class)
+        .is_some()
 }
 
 // The lowest key class with a base row that the subject sees.
@@ -37,7 +38,8 @@ fn base(values: &[u32], classes: &[u8], table: Table, subject: usize, key: u32) 
     ensures { result ≡ some_below table.part.description.levels (first_below table.part.description.levels
         (based_of table.part.description subject table.part.relation key (rows_of (sight table.part.description subject values.now classes.now)))) }
 {
-    for class in 0..table.part.description.levels {
+    let levels = table.part.description.levels as u8;
+    for class in 0..levels {
         if based(values, classes, table, subject, Entity { key, class }) {
             return Some(class);
         }
@@ -53,7 +55,8 @@ fn bases(values: &[u32], classes: &[u8], table: Table, subject: usize, key: u32)
         (based_of table.part.description subject table.part.relation key (rows_of (sight table.part.description subject values.now classes.now))) }
 {
     let mut bases = 0;
-    for class in 0..table.part.description.levels {
+    let levels = table.part.description.levels as u8;
+    for class in 0..levels {
         if based(values, classes, table, subject, Entity { key, class }) {
             bases += 1;
         }
