@@ -2,7 +2,7 @@
 -- Assumes nothing.
 use Rattle.std.specs.Prelude.{Ok, Err}
 use Rattle.model.specs.Answers.{Answer}
-use Prim.Native.Nat.{ℕ}
+use Prim.Native.Nat.{ℕ, zero, suc}
 use mathlib.Core.Path.{◌≡◌, refl, sym, ap, ap₂, ◌∙◌, fun_ext}
 use mathlib.Core.Bool.{Bool, true, false}
 use mathlib.Core.List.{List, [], ◌∷◌}
@@ -10,7 +10,7 @@ use mathlib.Core.Logic.{◌≢◌}
 use mathlib.Core.Option.{Option, none, some}
 use native.Mathlib.Omega.{arith}
 use lib.Dec.{eqb}
-use lib.ListN.{length}
+use lib.ListN.{length, take, drop}
 use borrow.Author.Tests.{eq-eqb, ne_eqb}
 use Rattle.bounded.proofs.Cases.{cases}
 use Rattle.model.specs.declared.Description.{Description}
@@ -40,6 +40,19 @@ module _ (f : Fault) (ts : List (Bool × Fault)) {b : Bool} where
 pub first-none : first_fault [] ≡ none
 unfolding first_fault
 first-none = refl
+
+-- of a list of tests that begins with these
+pub first-begun : (n : ℕ) (ts : List (Bool × Fault)) {f : Fault} → first_fault (take n ts) ≡ some f → first_fault ts ≡ some f
+unfolding first_fault
+first-begun zero ts e = cc
+first-begun (suc n) [] e = e
+first-begun (suc n) (t ∷ ts) e = cases t.0 (λ u. rw u (first-begun n ts (rw u at e))) (λ u. rw u (rw u at e))
+
+pub first-beyond : (n : ℕ) (ts : List (Bool × Fault)) → first_fault (take n ts) ≡ none → first_fault ts ≡ first_fault (drop n ts)
+unfolding first_fault
+first-beyond zero ts e = refl
+first-beyond (suc n) [] e = refl
+first-beyond (suc n) (t ∷ ts) e = cases t.0 (λ u. rw u (first-beyond n ts (rw u at e))) (λ u. let z = (rw u at e) in cc)
 
 -- ---- what a subject sees of its own level
 

@@ -4,20 +4,21 @@ use Rattle.std.specs.Prelude.{if◌then◌else◌}
 use Prim.Native.Nat.{ℕ, ◌%◌, ◌≤◌, ◌<◌}
 use mathlib.Core.Path.{◌≡◌, refl, sym, ap, ap₂, ◌∙◌}
 use mathlib.Core.Bool.{Bool, true, false, not, ◌&&◌}
-use mathlib.Core.List.{List}
+use mathlib.Core.List.{List, [], ◌∷◌}
 use mathlib.Core.Logic.{◌≢◌}
 use mathlib.Core.Option.{Option, none, some}
 use lib.Dec.{eqb, ltb}
 use lib.ListN.{length}
-use borrow.Author.Tests.{eq-eqb, ne_eqb, eqb-true, ltb-true}
+use borrow.Author.Tests.{eq-eqb, ne_eqb, lt-ltb, le-ltb, eqb-true}
 use Rattle.bounded.specs.Bounded.{some_below}
+use Rattle.bounded.proofs.Found.{some-below, none-below}
 use Rattle.bounded.proofs.Cases.{cases, clash}
 use Rattle.bounded.proofs.Reflection.{is_false, of-true, of-false, bool-r, not-r, and_r, eqb-r}
 use Rattle.model.specs.declared.Description.{Description}
 use Rattle.model.specs.declared.Fault.{Fault}
 use Rattle.model.specs.declared.Fault.TheVariants as Faults
-use Rattle.std.specs.Prelude.{Ok, Err, Some, None, Option as Opt, is_some, take}
-use Rattle.model.specs.Description.{between, is_column, column_count, in_range}
+use Rattle.std.specs.Prelude.{Ok, Err, Some, None, Option as Opt, is_some, ok_or, take}
+use Rattle.model.specs.Description.{between, is_column, row_count, column_count, in_range}
 use Rattle.model.specs.Tables.{Row, State, rows_of, cell, nocell, own_null, used, at}
 use Rattle.model.specs.Buffers.{Buffers, holding, inside, state_of}
 use Rattle.model.specs.Listed.{whole, each, listed, columns_once}
@@ -35,9 +36,10 @@ use Rattle.asked.specs.Facts.{rule_of}
 use Rattle.theory.proofs.Tests.{pass}
 use Rattle.theory.proofs.Listed.{each-listed}
 use Rattle.theory.proofs.Seen.{seen_at, seen-own}
-use Rattle.change.specs.Facts.{Standing, Filled, Inserts, does, sight, value_listed}
+use Rattle.change.specs.Facts.{Standing, Filled, Inserts, refuses, does, sight, value_listed}
 use Rattle.change.specs.Tests.{ended}
-use Rattle.change.proofs.Answers.{left-own, left-still}
+use Rattle.change.proofs.Ended.{failed-by, passed-by}
+use Rattle.change.proofs.Answers.{first-fails, first_passes, first-none, first-begun, first-beyond, left-own, left-still}
 use Rattle.change.proofs.Known.{own-over}
 use Rattle.change.proofs.Sought.{used-some}
 
@@ -48,15 +50,11 @@ key-listed list = refl
 
 -- ---- when it is well formed
 
-module _ (d : Description) (r : ℕ) (list : List ℕ) where
-  abbrev formed : Bool
-  formed = insert_formed d r list
-
-  -- test after test
-  pub formed-tests : {a b : Bool} {v : ℕ} → a ≡ each (rule_of d r Rules.Column) list → b ≡ columns_once list → v ≡ value_listed list 1
-      → (eqb (length list % 2) 0 && (a && (b && not (eqb v 0)))) ≡ formed
-  unfolding insert_formed whole rule_of
-  formed-tests e f g = rw (e, f, g, key-listed list)
+-- test after test
+pub formed-tests : (d : Description) (r : ℕ) (list : List ℕ)
+    → insert_formed d r list ≡ (eqb (length list % 2) 0 && (each (rule_of d r Rules.Column) list && (columns_once list && not (eqb (value_listed list 1) 0))))
+unfolding insert_formed whole rule_of
+formed-tests d r list = rw (key-listed list)
 
 -- ---- the new row
 
@@ -134,6 +132,14 @@ module _ (d : Description) (c r : ℕ) (list : List ℕ) (b : Buffers) where
 
 -- ---- its tests, and what is answered
 
+unfound : {o : Opt ℕ} {e f : Fault} → Err e ≡ ok_or o f → (o ≡ None) × (e ≡ f)
+unfound {o = None} p = (refl, cc)
+unfound {o = Some x} p = cc
+
+there : {o : Opt ℕ} {x : ℕ} (f : Fault) → Ok x ≡ ok_or o f → o ≡ Some x
+there {o = None} f p = cc
+there {o = Some y} f p = cc
+
 module _ (d : Description) (r : ℕ) (list : List ℕ) (h : insert_formed d r list ≡ true) where
   says : (whole 2 list ≡ true) × ((each (λ k v. is_column d r k) list ≡ true) × ((columns_once list ≡ true) × (key_listed list ≢ 0)))
   unfolding insert_formed
@@ -167,15 +173,25 @@ module _ {d : Description} {r c : ℕ} {vs cs : List ℕ} (K : Standing d r c vs
       (ap used (seen_at d T c r c (key_listed list) (own-over K))
       ∙ sym (used-some d vs cs r c (key_listed list) (formed-keyed d r list formed-is) (y ∙ ap (some_below (row_count d r)) (ap (key_place d vs r c) (x ∙ key-listed list)))))
 
-  module _ {o : Opt ℕ} (q : Found d r (lowest_empty d (T c).rows r) o) where
-    -- the last test
-    pub full : Ok tt ≡ ended (take 3 tests) → o ≡ None → first_fault tests ≡ some Faults.Full
-    unfolding insert_tests has_room
-    full p n = ?
+  -- one of the tests but the last fails
+  pub unbegun : {f : Fault} → Err f ≡ ended (take 3 tests) → Inserts d c r list vs cs vs cs (Err f)
+  unbegun p = refuses _ (first-begun 3 tests (failed-by p refl)) refl refl refl
 
-    pub room : {row : ℕ} → Ok tt ≡ ended (take 3 tests) → o ≡ Some row → first_fault tests ≡ none
+  -- the last one fails, or none
+  module _ (p : Ok tt ≡ ended (take 3 tests)) {o : Opt ℕ} (q : Found d r (lowest_empty d (T c).rows r) o) where
+    pub full : {f : Fault} → Err f ≡ ok_or o Faults.Full → Inserts d c r list vs cs vs cs (Err f)
     unfolding insert_tests has_room
-    room p n = ?
+    full e =
+        let n = unfound e in
+        let h = none-below _ _ (sym n.0 ∙ q) in
+        refuses _ (first-beyond 3 tests (passed-by p refl) ∙ first-fails Faults.Full [] (rw (own, le-ltb _ _ h)) ∙ ap some (sym n.1)) refl refl refl
+
+    pub found : {row : ℕ} → Ok row ≡ ok_or o Faults.Full → (row ≡ lowest_empty d (T c).rows r) × (lowest_empty d (T c).rows r < row_count d r)
+    found e = some-below _ _ (sym (there _ e) ∙ q)
+
+    pub room : {row : ℕ} → Ok row ≡ ok_or o Faults.Full → first_fault tests ≡ none
+    unfolding insert_tests has_room
+    room e = first-beyond 3 tests (passed-by p refl) ∙ (first_passes Faults.Full [] (rw (own, lt-ltb _ _ (found e).1)) ∙ first-none)
 
   pub insert-done : {row : ℕ} → row ≡ lowest_empty d (T c).rows r → first_fault tests ≡ none → {news owners us ds : List ℕ} → Filled (column_count d r) (value_listed list) news
       → Filled (column_count d r) (λ k. (new_row d c r list k).class) owners

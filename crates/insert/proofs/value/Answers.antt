@@ -2,11 +2,11 @@ use native.Mathlib.Omega.{arith}
 use Rattle.change.proofs.Pairs.{pair-there, value_none, value-some}
 use Rattle.insert.proofs.value.Goals as goal
 
-pub overflow_mul-at : goal.overflow_mul-at
-overflow_mul-at c = omega (arith, pair-there _ _ c.in-Some.ensures)
+pub overflow_mul-result : goal.overflow_mul-result
+overflow_mul-result c = omega (arith, pair-there _ _ c.in-Some.ensures)
 
-pub overflow_add-at : goal.overflow_add-at
-overflow_add-at c = omega (arith, pair-there _ _ c.in-Some.ensures)
+pub overflow_add-result : goal.overflow_add-result
+overflow_add-result c = omega (arith, pair-there _ _ c.in-Some.ensures)
 
 pub offset_bounds-list-at : goal.offset_bounds-list-at
 offset_bounds-list-at c = omega (arith, pair-there _ _ c.in-Some.ensures)
