@@ -81,13 +81,6 @@ later_tests d c r entity list S =
     ∷ (same (at d T r c entity.value 1) entity || has_room d (S c).rows r, Faults.Full)
     ∷ []
 
--- the tests of an entity that was looked for: whether it is there, whether it is the only one, and the others
-unfoldable pub entity_tests : Description → ℕ → ℕ → Option ℕ → Cell → List ℕ → State → List (Bool × Fault)
-entity_tests d c r given entity list S =
-    (based d c r entity.value (rows_of S) entity.class, Faults.Absent)
-    ∷ (not (several_based d c r entity.value given (rows_of S)), Faults.Several)
-    ∷ later_tests d c r entity list S
-
 -- ---- the new row
 
 -- a borrowed value v is a reference that names another entity at c than at a

@@ -1,5 +1,5 @@
 // The tests after the entity is known.
-ghost use Rattle.std.specs.Prelude.{◌≡◌, true, ◌&&◌, ltb, length, is_none, take};
+ghost use Rattle.std.specs.Prelude.{◌≡◌, true, not, ◌&&◌, ltb, length, is_some, take};
 ghost use Rattle.model.specs.Description.{row_count, over as over_of};
 ghost use Rattle.model.specs.Tables.{cell, rows_of};
 ghost use Rattle.model.specs.Uplevel.{borrowed_names};
@@ -47,7 +47,7 @@ fn borrowed(
 fn taken(values: &[u32], part: Part, subject: usize, key: u32, here: Option<usize>) -> bool
     requires sized { Sized part.description (length values.now) }
     requires in_level { InLevel part.description part.relation subject }
-    ensures { result ≡ (is_none here && ltb (key_place part.description values.now part.relation subject key) (row_count part.description part.relation)) }
+    ensures { result ≡ (not (is_some here) && ltb (key_place part.description values.now part.relation subject key) (row_count part.description part.relation)) }
 {
     here.is_none() && part.find(values, subject, key).is_some()
 }
