@@ -1,6 +1,6 @@
 -- UPLEVEL's tests: each is what the code asks, and the first that fails is answered.
 -- Assumes nothing.
-use Rattle.std.specs.Prelude.{Ok, Err, Option, Some, None, is_some, take}
+use Rattle.std.specs.Prelude.{Ok, Err, Option, Some, None, is_some, ok_or, take}
 use Prim.Native.Nat.{ℕ, ◌≤◌, ◌<◌}
 use mathlib.Core.Path.{◌≡◌, refl, sym, ap, ◌∙◌}
 use mathlib.Core.Bool.{Bool, true, false, not, ◌&&◌, ◌||◌}
@@ -175,6 +175,11 @@ spot-room : (d : Description) (r : ℕ) (B : Rows) (o : Option ℕ) → is_some 
 unfolding spot_of has_room
 spot-room d r B None = some-is _ _
 spot-room d r B (Some i) = refl
+
+-- the fault that is answered where there is none
+pub unfound : {o : Option ℕ} {e f : Fault} → Err e ≡ ok_or o f → (o ≡ None) × (e ≡ f)
+unfound {o = None} p = (refl, cc)
+unfound {o = Some x} p = cc
 
 -- ---- the tests after the entity is known
 
