@@ -11,7 +11,7 @@ use native.Mathlib.Omega.{arith}
 use lib.Dec.{eqb, ltb, leb}
 use borrow.Author.Tests.{ltb-true, ltb-false, le-leb, lt-leb}
 use Rattle.bounded.specs.Bounded.{first_below, count_below, some_below}
-use Rattle.bounded.proofs.Cases.{cases, and_right}
+use Rattle.bounded.proofs.Cases.{cases, and_left, and_right}
 use Rattle.bounded.proofs.First.{first-le}
 use Rattle.bounded.proofs.Found.{some-below, none-below}
 use Rattle.bounded.proofs.Reflection.{is_false, bool-r}
@@ -23,7 +23,7 @@ use Rattle.model.specs.Description.{over, in_range, row_count, sound}
 use Rattle.model.specs.Tables.{State, Tables, cell, same, used, rows_of, seen, at}
 use Rattle.model.specs.Buffers.{holding, state_of}
 use Rattle.model.specs.Listed.{each}
-use Rattle.model.specs.Effect.{Rows, Effect, has_room}
+use Rattle.model.specs.Effect.{Rows, Effect, lowest_empty, has_room}
 use Rattle.model.specs.Uplevel.{based, entity_of, uplevel_tests}
 use Rattle.model.specs.Run.{first_fault}
 use Rattle.cells.specs.Layout.{Row}
@@ -169,12 +169,28 @@ module _ (d : Description) (c r key class : ℕ) (T : Tables) where
           (λ t. sole q t refl)
           (λ t. let z : Ok e ≡ Err Faults.Absent = p ∙ sym (admits-unbased d c r key T _ q refl t) in cc)
 
+-- a base row stands at a level that the subject sees
+pub based-over : (d : Description) (c r key own : ℕ) (T : Tables) → based d c r key T own ≡ true → over d c own ≡ true
+unfolding based
+based-over d c r key own T t = and_left _ _ t
+
 -- ---- the place of the new row
 
-spot-room : (d : Description) (r : ℕ) (B : Rows) (o : Option ℕ) → is_some (spot_of d r o B) ≡ (is_some o || has_room d B r)
-unfolding spot_of has_room
-spot-room d r B None = some-is _ _
-spot-room d r B (Some i) = refl
+module _ (d : Description) (r : ℕ) (B : Rows) where
+  pub spot-there : (o : Option ℕ) → is_some o ≡ true → o ≡ spot_of d r o B
+  unfolding spot_of
+  spot-there None t = cc
+  spot-there (Some i) t = refl
+
+  pub spot-lowest : (o : Option ℕ) → is_some o ≡ false → {row : Option ℕ} → Row d r (lowest_empty d B r) row → row ≡ spot_of d r o B
+  unfolding spot_of
+  spot-lowest None t e = e
+  spot-lowest (Some i) t e = cc
+
+  spot-room : (o : Option ℕ) → is_some (spot_of d r o B) ≡ (is_some o || has_room d B r)
+  unfolding spot_of has_room
+  spot-room None = some-is _ _
+  spot-room (Some i) = refl
 
 -- the fault that is answered where there is none
 pub unfound : {o : Option ℕ} {e f : Fault} → Err e ≡ ok_or o f → (o ≡ None) × (e ≡ f)
@@ -189,13 +205,10 @@ turned true false = refl
 turned false true = refl
 turned false false = refl
 
-module _ (d : Description) (vs cs : List ℕ) (c r key class : ℕ) (list : List ℕ) (o : over d c c ≡ true) (nz : key ≢ 0)
+module _ (d : Description) (vs cs : List ℕ) (c r key class : ℕ) (o : over d c c ≡ true) (nz : key ≢ 0)
     {here : Option ℕ} (e : Row d r (entity_place d vs cs r c key class) here) where
   abbrev S : State
   S = state_of d (holding vs cs)
-
-  abbrev tests : List (Bool × Fault)
-  tests = later_tests d c r (cell key class) list (seen d c S)
 
   pub taken-test : (not (used (at d (rows_of (seen d c S)) r c key)) || same (at d (rows_of (seen d c S)) r c key 1) (cell key class)) ≡ not (not (is_some here) && ltb (key_place d vs r c key) (row_count d r))
   taken-test =
@@ -205,19 +218,19 @@ module _ (d : Description) (vs cs : List ℕ) (c r key class : ℕ) (list : List
   full-test : (same (at d (rows_of (seen d c S)) r c key 1) (cell key class) || has_room d (seen d c S c).rows r) ≡ is_some (spot_of d r here (S c).rows)
   full-test = rw (seen_at d S c r c key o, seen-own d S c o, ← (entity-is d vs cs r c key class nz e)) (sym (spot-room d r (S c).rows here))
 
-  -- one of the tests but the last fails
-  pub early : {f : Fault} → Err f ≡ ended (take 3 tests) → first_fault tests ≡ some f
-  early p = first-begun 3 tests (failed-by p refl)
+  module _ (list : List ℕ) where
+    abbrev tests : List (Bool × Fault)
+    tests = later_tests d c r (cell key class) list (seen d c S)
 
-  -- the last one fails, or none
-  module _ (p : Ok tt ≡ ended (take 3 tests)) {row : Option ℕ} (q : row ≡ spot_of d r here (S c).rows) where
-    pub full : row ≡ None → first_fault tests ≡ some Faults.Full
-    unfolding later_tests
-    full z = first-beyond 3 tests (passed-by p refl) ∙ first-fails Faults.Full [] (full-test ∙ ap is_some (sym q ∙ z))
+    -- the last of the tests fails, or none
+    module _ (p : Ok tt ≡ ended (take 3 tests)) {row : Option ℕ} (q : row ≡ spot_of d r here (S c).rows) where
+      pub full : row ≡ None → first_fault tests ≡ some Faults.Full
+      unfolding later_tests
+      full z = first-beyond 3 tests (passed-by p refl) ∙ first-fails Faults.Full [] (full-test ∙ ap is_some (sym q ∙ z))
 
-    pub room : {i : ℕ} → row ≡ Some i → first_fault tests ≡ none
-    unfolding later_tests
-    room z = first-beyond 3 tests (passed-by p refl) ∙ (first_passes Faults.Full [] (full-test ∙ ap is_some (sym q ∙ z)) ∙ first-none)
+      pub room : {i : ℕ} → row ≡ Some i → first_fault tests ≡ none
+      unfolding later_tests
+      room z = first-beyond 3 tests (passed-by p refl) ∙ (first_passes Faults.Full [] (full-test ∙ ap is_some (sym q ∙ z)) ∙ first-none)
 
 -- what is asked of each FROM level
 pub class-test : (d : Description) (r class : ℕ) (list : List ℕ) {a : Bool} → a ≡ each (rule_of d r (Rules.Above class)) list → each (λ k a. over d a class) list ≡ a

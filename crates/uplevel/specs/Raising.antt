@@ -10,6 +10,7 @@ use Rattle.model.specs.Tables.{Cell, Tables, State, rows_of, same, used, at}
 use Rattle.model.specs.Listed.{each}
 use Rattle.model.specs.Effect.{Rows, agrees, lowest_empty, has_room}
 use Rattle.model.specs.Uplevel.{based, borrowed_names, raised}
+use Rattle.above.specs.declared.plan.Change.{Change}
 use Rattle.above.specs.declared.plan.Change.TheVariants as Changes
 use Rattle.above.specs.declared.plan.Plan.{Plan}
 use Rattle.uplevel.specs.declared.made.News.{News}
@@ -97,9 +98,13 @@ unfoldable pub spot_of : Description → ℕ → Option ℕ → Rows → Option 
 spot_of d r None B = some_below (row_count d r) (lowest_empty d B r)
 spot_of d r (Some i) B = Some i
 
--- what is done to the rows above: where a row was replaced, what differs from the new row becomes null
+-- what becomes of cells above, by column: what differs from the new row becomes null
+pub record Nulling (news : News) (changes : List Change) : Type 0 where
+  pub long : length changes ≡ 9
+  pub only : (k : ℕ) → k < 9 → get_or changes k Changes.Keep ≡ Changes.Only (get_or news.values k 0) (get_or news.classes k 0)
+
+-- what is done to the rows above where a row was replaced
 pub record Planning (row : ℕ) (there : Bool) (news : News) (P : Plan) : Type 0 where
   pub chosen : P.chosen ≡ set (replicate 64 false) row there
   pub gone : P.gone ≡ false
-  pub long : length P.changes ≡ 9
-  pub changes : (k : ℕ) → k < 9 → get_or P.changes k Changes.Keep ≡ Changes.Only (get_or news.values k 0) (get_or news.classes k 0)
+  pub changes : Nulling news P.changes

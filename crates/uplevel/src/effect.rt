@@ -1,10 +1,10 @@
 // The effect: where the new row goes, and what becomes of the rows above.
-ghost use Rattle.std.specs.Prelude.{◌≡◌, length, ◌<◌};
+ghost use Rattle.std.specs.Prelude.{◌≡◌, false, length, set, replicate, ◌<◌};
 ghost use Rattle.model.specs.Description.{row_count};
 ghost use Rattle.model.specs.Buffers.{holding, state_of};
 ghost use Rattle.cells.specs.Layout.{Lent, InLevel};
 ghost use Rattle.change.specs.Facts.{Standing};
-ghost use Rattle.uplevel.specs.Raising.{spot_of, Planning};
+ghost use Rattle.uplevel.specs.Raising.{spot_of, Nulling};
 ghost use Rattle.uplevel.specs.Raised.{Replacing, Replaces};
 
 use crate::made::News;
@@ -31,24 +31,27 @@ pub(crate) fn spot(
     part.lowest(values, classes, subject)
 }
 
-// Where the entity was there, what differs above from its new row becomes null.
-fn plan(row: usize, there: bool, news: News) -> Plan
+// Only one row is chosen, or none.
+fn choose(row: usize, on: bool) -> [bool; 64]
     requires { row < 64 }
-    ensures { Planning row there news result }
+    ensures { result ≡ set (replicate 64 false) row on }
 {
     let mut chosen = [false; 64];
-    chosen[row] = there;
+    chosen[row] = on;
+    chosen
+}
+
+// What becomes of the subject's cells above, by column: what differs from the new row becomes null.
+fn changes(news: News) -> [Change; 9]
+    ensures { Nulling news result }
+{
     let mut changes = [Change::Keep; 9];
     for column in 0..9 {
         let value = news.values[column];
         let class = news.classes[column];
         changes[column] = Change::Only { value, class };
     }
-    Plan {
-        chosen,
-        gone: false,
-        changes,
-    }
+    changes
 }
 
 // A row becomes the new row; above, where the entity was there, what differs from it becomes null.
@@ -65,7 +68,13 @@ pub(crate) fn write(
     requires replacing { Replacing table.part.description table.part.relation subject row there values.old classes.old }
     ensures { Replaces table.part.description table.part.relation subject row there news values.old classes.old values.new classes.new }
 {
-    let plan = plan(row, there, news);
+    let chosen = choose(row, there);
+    let changes = changes(news);
+    let plan = Plan {
+        chosen,
+        gone: false,
+        changes,
+    };
     above(values, classes, table, plan, subject);
     let part = table.part;
     part.store(values, classes, subject, row, news.values, news.classes);

@@ -1,6 +1,6 @@
 // The tests after the entity is known.
-ghost use Rattle.std.specs.Prelude.{◌≡◌, true, not, ◌&&◌, ltb, length, is_some, take};
-ghost use Rattle.model.specs.Description.{row_count, over as over_of};
+ghost use Rattle.std.specs.Prelude.{◌≡◌, not, ◌&&◌, ltb, length, is_some, take};
+ghost use Rattle.model.specs.Description.{row_count};
 ghost use Rattle.model.specs.Tables.{cell, rows_of};
 ghost use Rattle.model.specs.Uplevel.{borrowed_names};
 ghost use Rattle.cells.specs.Layout.{Sized, InLevel, Row};
@@ -62,8 +62,9 @@ pub(crate) fn check(
     entity: Entity,
     here: Option<usize>,
 ) -> Result<(), Fault>
-    requires standing { Standing table.part.description table.part.relation subject values.now classes.now × Listing table.part.description table.part.relation subject entity.key list.now }
-    requires class_seen { (over_of table.part.description subject entity.class ≡ true) × Row table.part.description table.part.relation (entity_place table.part.description values.now classes.now table.part.relation subject entity.key entity.class) here }
+    requires standing { Standing table.part.description table.part.relation subject values.now classes.now }
+    requires listing { Listing table.part.description table.part.relation subject entity.key list.now }
+    requires found { Row table.part.description table.part.relation (entity_place table.part.description values.now classes.now table.part.relation subject entity.key entity.class) here }
     ensures { result ≡ ended (take 3 (later_tests table.part.description subject table.part.relation (cell entity.key entity.class) list.now (sight table.part.description subject values.now classes.now))) }
 {
     let part = table.part;
