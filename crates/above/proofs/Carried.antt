@@ -10,7 +10,7 @@ use native.Mathlib.Omega.{arith}
 use lib.Dec.{eqb, ltb}
 use lib.ListN.{get_or}
 use borrow.Author.Tests.{eq-eqb, ne_eqb, lt-ltb, ltb-true, ltb-false, eqb-true, eqb-false}
-use Rattle.bounded.proofs.Cases.{cases, order, clash, and-false-right}
+use Rattle.bounded.proofs.Cases.{cases, clash, and-false-right}
 use Rattle.bounded.proofs.First.{first_holds}
 use Rattle.bounded.proofs.Reflection.{is_false, of-true, bool-r, and_r, ltb-r}
 use Rattle.model.specs.declared.Description.{Description}
@@ -97,7 +97,7 @@ neither g a b c n =
     (λ t. let w = ne_eqb b c (λ e. n (eqb-true a c t ∙ sym e)) in rw (t, w) (and-false-right g false refl))
     (λ t. rw t (and-false-right g false refl))
 
-module _ (d : Description) (order : List (List Bool)) (r c : ℕ) (P : Plan) (S : State) (W : Working d order r c S) (Q : Planned d r c P ((S c).rows r)) where
+module _ (d : Description) (r c : ℕ) (P : Plan) (S : State) (W : Working d r c S) (Q : Planned d r c P ((S c).rows r)) where
   abbrev T : Tables
   T = at d (rows_of S)
 
@@ -186,7 +186,7 @@ module _ (d : Description) (order : List (List Bool)) (r c : ℕ) (P : Plan) (S 
         unfolding same
         same-own = rw (there-own, known.key, eq-eqb v v refl)
 
-        reach-touched : (own 1).class ≡ (R 1).class → reach d T c E r l R k ≡ (if P.gone && eqb (R 1).class c then nocell else turned (given_by d r P c S l).kinds (given_by d r P c S l).values (given_by d r P c S l).classes c k (R k))
+        reach-touched : (own 1).class ≡ (R 1).class → reach d T c E r l R k ≡ (if P.gone && eqb (R 1).class c then nocell else turned (given_by d r P c S l).changes c k (R k))
         unfolding reach above_of turned turned_by
         reach-touched q =
             rw (gone-chosen, both P.gone (own 1).class (R 1).class c q, same-own, eq-eqb (R 1).class (own 1).class (sym q), eq-eqb r r refl, m, gone-self (R k).value)
@@ -206,10 +206,10 @@ module _ (d : Description) (order : List (List Bool)) (r c : ℕ) (P : Plan) (S 
             (λ u. rw u (cases (eqb k (foreign_of d r)) (λ w. rw w) (λ w. rw w))))
 
       after_is : row_after (row_count d r) (given_by d r P c S l) c ((S c).rows r) R k
-          ≡ (if touched_by (row_count d r) P.chosen ((S c).rows r) R then (if P.gone && eqb (R 1).class c then nocell else turned (given_by d r P c S l).kinds (given_by d r P c S l).values (given_by d r P c S l).classes c k (R k)) else R k)
+          ≡ (if touched_by (row_count d r) P.chosen ((S c).rows r) R then (if P.gone && eqb (R 1).class c then nocell else turned (given_by d r P c S l).changes c k (R k)) else R k)
       unfolding row_after
       after_is =
-          ap₂ (λ (x : List Bool) (g : Bool). if touched_by (row_count d r) x ((S c).rows r) R then (if g && eqb (R 1).class c then nocell else turned (given_by d r P c S l).kinds (given_by d r P c S l).values (given_by d r P c S l).classes c k (R k)) else R k)
+          ap₂ (λ (x : List Bool) (g : Bool). if touched_by (row_count d r) x ((S c).rows r) R then (if g && eqb (R 1).class c then nocell else turned (given_by d r P c S l).changes c k (R k)) else R k)
           (given-chosen d r c l P S Q foreign-few) (given-gone d r c l P S Q foreign-few)
 
       row-own : reach d T c E r l R k ≡ row_after (row_count d r) (given_by d r P c S l) c ((S c).rows r) R k
@@ -301,7 +301,7 @@ module _ (d : Description) (order : List (List Bool)) (r c : ℕ) (P : Plan) (S 
         (λ t. rw t (cell_other s i k (λ e. eqb-false r s t (sym e))))
 
 -- a level above: rows of the relation as they are afterwards, and in the relations that refer to it the references
-pub carried-above : (d : Description) (order : List (List Bool)) (r c l : ℕ) (P : Plan) (S : State) → l ≢ c → over d l c ≡ true → Working d order r c S → Planned d r c P ((S c).rows r)
+pub carried-above : (d : Description) (r c l : ℕ) (P : Plan) (S : State) → l ≢ c → over d l c ≡ true → Working d r c S → Planned d r c P ((S c).rows r)
     → carried d c r P S l
     ≡ with_rows (row_count d r) (column_count d r) r (λ i. row_after (row_count d r) (given_by d r P c S l) c ((S c).rows r) ((S l).rows r i)) (with_referrers (suc d.relations) d r P c S l (S l))
-carried-above d order r c l P S n o W Q = level-path (λ s i k. carried-cell d c r P S l n o s i k ∙ cell-reached d order r c P S W Q l s i k)
+carried-above d r c l P S n o W Q = level-path (λ s i k. carried-cell d c r P S l n o s i k ∙ cell-reached d r c P S W Q l s i k)

@@ -5,10 +5,8 @@ use Prim.Native.Nat.{ℕ, ◌+◌, ◌≤◌, ◌<◌}
 use mathlib.Core.Path.{◌≡◌, refl, sym, ap, ◌∙◌, subst, fun_ext}
 use mathlib.Core.Bool.{Bool, true, false, ◌&&◌}
 use mathlib.Core.Logic.{◌≢◌, ◌⊎◌, inl, inr}
-use mathlib.Core.List.{List}
 use native.Mathlib.Omega.{arith}
 use lib.Dec.{eqb, ltb}
-use lib.ListN.{get_or}
 use borrow.Author.Tests.{eq-eqb, ne_eqb, lt-ltb, le-ltb, ltb-true, ltb-false}
 use Rattle.bounded.proofs.Cases.{cases, order}
 use Rattle.model.specs.declared.Description.{Description}
@@ -19,7 +17,9 @@ use Rattle.theory.proofs.Described.{sound-laws}
 use Rattle.theory.proofs.Reach.{Side, at_c, over-c, off-c, side}
 use Rattle.cells.specs.Changed.{change_level}
 use Rattle.above.specs.declared.plan.Plan.{Plan}
-use Rattle.above.specs.Facts.{chosen_at, change_of, above_of, carried, carried_below, Working, Planned}
+use Rattle.above.specs.declared.plan.Change.{Change}
+use Rattle.above.specs.declared.plan.Change.TheVariants as Changes
+use Rattle.above.specs.Facts.{chosen_at, effect_of, planned, change_of, above_of, carried, carried_below, Working, Planned}
 use Rattle.above.proofs.Carried.{carried-own, carried-cell, carried-local, off, reach-nothing}
 
 -- ---- the levels, one after another
@@ -61,8 +61,8 @@ module _ (d : Description) (c r : ℕ) (P : Plan) (S₀ : State) where
       past l h = rw (ne_eqb n l (λ e. omega arith)) (is l ∙ below-still n d c r P S₀ l (omega arith) ∙ sym (below-still (n + 1) d c r P S₀ l (omega arith)))
 
   -- no level past the last is above
-  pub levels-end : (n : ℕ) (order : List (List Bool)) {S : State} → Working d order r c S₀ → S ≡ carried_below n d c r P S₀ → n ≡ d.levels → S ≡ carried d c r P S₀
-  levels-end n order {S} W p e = fun_ext (λ l. ap (λ (T : State). T l) p ∙ cases (ltb l n) (λ t. below-reached n d c r P S₀ l (ltb-true l n t)) (λ t. past l (ltb-false l n t)))
+  pub levels-end : (n : ℕ) {S : State} → Working d r c S₀ → S ≡ carried_below n d c r P S₀ → n ≡ d.levels → S ≡ carried d c r P S₀
+  levels-end n {S} W p e = fun_ext (λ l. ap (λ (T : State). T l) p ∙ cases (ltb l n) (λ t. below-reached n d c r P S₀ l (ltb-true l n t)) (λ t. past l (ltb-false l n t)))
     where
       past : (l : ℕ) → n ≤ l → carried_below n d c r P S₀ l ≡ carried d c r P S₀ l
       past l h =
@@ -71,14 +71,15 @@ module _ (d : Description) (c r : ℕ) (P : Plan) (S₀ : State) where
 
 -- ---- what is known stays known
 
-module _ (d : Description) (order : List (List Bool)) (r c : ℕ) (P : Plan) (S : State) (W : Working d order r c S) (Q : Planned d r c P ((S c).rows r)) where
+module _ (d : Description) (r c : ℕ) (P : Plan) (S : State) (W : Working d r c S) (Q : Planned d r c P ((S c).rows r)) where
   change-key : (l s : ℕ) (h : Bool) (x : Cell) → ((changed d (at d (rows_of S)) c s l 1 (if h then change_of P 1 else keep) x).value ≡ x.value) ⊎ ((changed d (at d (rows_of S)) c s l 1 (if h then change_of P 1 else keep) x).value ≡ 0)
-  unfolding changed change_of
-  change-key l s true x =
-      rw (ne_eqb _ 1 Q.key)
-      (cases (eqb (get_or P.kinds 1 0) 2)
-      (λ t. cases (same x (cell (get_or P.values 1 0) (get_or P.classes 1 0))) (λ u. rw (t, u) (inl refl)) (λ u. rw (t, u) (inr refl)))
-      (λ t. rw t (inl refl)))
+  unfolding changed change_of effect_of
+  change-key l s true x = go (planned P 1) refl
+    where
+      go : (h : Change) → planned P 1 ≡ h → ((changed d (at d (rows_of S)) c s l 1 (effect_of (planned P 1)) x).value ≡ x.value) ⊎ ((changed d (at d (rows_of S)) c s l 1 (effect_of (planned P 1)) x).value ≡ 0)
+      go Changes.Keep e = rw e (inl refl)
+      go (Changes.Take v o) e = absurd (Q.key v o e)
+      go (Changes.Only v o) e = rw e (cases (same x (cell v o)) (λ u. rw u (inl refl)) (λ u. rw u (inr refl)))
   change-key l s false x = inl refl
 
   -- a row keeps its key or loses it
@@ -111,7 +112,7 @@ module _ (d : Description) (order : List (List Bool)) (r c : ℕ) (P : Plan) (S 
       where
         go : (S' l ≡ S l) ⊎ ((s i k : ℕ) → (S' l).rows s i k ≡ reach d (at d (rows_of S)) c (above_of d c r P (S c).rows) s l ((S l).rows s i) k) → (S' l).rows s i k ≡ nocell
         go (inl p) = ap (λ (B : Level). B.rows s i k) p ∙ e
-        go (inr f) = f s i k ∙ reach-nothing d order r c P S W Q l s ((S l).rows s i) k e
+        go (inr f) = f s i k ∙ reach-nothing d r c P S W Q l s ((S l).rows s i) k e
 
     key : (s l i : ℕ) → ((S' l).rows s i 1).value ≢ 0 → ((S' l).rows s i 1).value ≡ ((S l).rows s i 1).value
     key s l i nz = go (below-level l)
@@ -125,10 +126,9 @@ module _ (d : Description) (order : List (List Bool)) (r c : ℕ) (P : Plan) (S 
         go (inl p) = ap (λ (B : Level). (B.rows s i 1).value) p
         go (inr f) = kept (reach-key l s ((S l).rows s i)) (ap (λ (x : Cell). x.value) (f s i 1))
 
-    working-below : Working d order r c (carried_below n d c r P S)
+    working-below : Working d r c (carried_below n d c r P S)
     working-below = record {
       sound-is = W.sound-is;
-      order_is = W.order_is;
       relation = W.relation;
       level = W.level;
       outside = λ s l i k h. none s l i k (W.outside s l i k h);
@@ -140,8 +140,8 @@ module _ (d : Description) (order : List (List Bool)) (r c : ℕ) (P : Plan) (S 
     planned_below = subst (λ (B : Level). Planned d r c P (B.rows r)) (sym (below-own n d c r P S)) Q
 
     -- so of tables that are as they are when the levels below n are passed
-    pub working-as : {T : State} → T ≡ carried_below n d c r P S → Working d order r c T
-    working-as e = subst (Working d order r c) (sym e) working-below
+    pub working-as : {T : State} → T ≡ carried_below n d c r P S → Working d r c T
+    working-as e = subst (Working d r c) (sym e) working-below
 
     pub planned-as : {T : State} → T ≡ carried_below n d c r P S → Planned d r c P ((T c).rows r)
     planned-as e = subst (λ (T : State). Planned d r c P ((T c).rows r)) (sym e) planned_below

@@ -1,6 +1,6 @@
 -- The rows of a relation written one after another, each from what it was; and what each way through a row leaves.
 -- Assumes nothing.
-use Prim.Native.Nat.{ℕ, ◌+◌}
+use Prim.Native.Nat.{ℕ, zero, suc, pred, ◌+◌, ◌≤◌}
 use mathlib.Core.Path.{◌≡◌, refl, sym, ap, ap₂, ◌∙◌, fun_ext}
 use mathlib.Core.Bool.{Bool, true, false, ◌&&◌}
 use mathlib.Core.Logic.{◌≢◌}
@@ -9,48 +9,23 @@ use native.Mathlib.Omega.{arith}
 use lib.Dec.{eqb}
 use lib.ListN.{get_or}
 use borrow.Author.Tests.{eq-eqb, ne_eqb, eqb-true}
-use Rattle.bounded.proofs.Cases.{cases, and-false-right}
+use Rattle.bounded.proofs.Cases.{cases}
 use Rattle.bounded.proofs.Reflection.{is_false}
 use Rattle.model.specs.declared.Description.{Description}
-use Rattle.model.specs.Tables.{Cell, Row, cell, norow, same, Level, State}
+use Rattle.model.specs.Tables.{Cell, Row, cell, norow, Level, State}
 use Rattle.model.specs.Buffers.{holding, state_of}
 use Rattle.model.proofs.Sound.{between-r}
 use Rattle.cells.specs.Changed.{value_at, class_at, with_cell, with_row, change_level}
 use Rattle.cells.proofs.Cells.{state-cell}
 use Rattle.cells.proofs.Changes.{level-path, change-same, change-here, change-other}
-use Rattle.cells.proofs.Written.{row_more, row_same}
+use Rattle.cells.proofs.Written.{row-next, row_same}
 use Rattle.above.specs.declared.plan.Plan.{Plan}
+use Rattle.above.specs.declared.plan.Change.{Change}
+use Rattle.above.specs.declared.plan.Change.TheVariants as Changes
 use Rattle.above.specs.Facts.{OneRow, touched_by, becomes, turned_by, turned, row_after, with_rows}
 use Rattle.above.proofs.Turns.{rows_more, rows-still}
 
 -- ---- a cell
-
--- what a cell of the subject's class becomes, way by way
-pub becomes-taken : (kind : ℕ) (n x : Cell) → kind ≡ 1 → n ≡ becomes kind n x
-unfolding becomes
-becomes-taken kind n x e = rw e
-
-pub becomes-kept : (kind : ℕ) (n x : Cell) → (kind ≡ 1 → ⊥) → (kind ≡ 2 → ⊥) → x ≡ becomes kind n x
-unfolding becomes
-becomes-kept kind n x a b = rw (ne_eqb kind 1 a, ne_eqb kind 2 b)
-
-pub becomes-this : (kind : ℕ) (n x : Cell) → kind ≡ 2 → n.class ≡ x.class → x.value ≡ n.value → x ≡ becomes kind n x
-unfolding becomes same
-becomes-this kind n x e p q = rw (e, eq-eqb _ _ q, eq-eqb _ _ (sym p))
-
-pub becomes-null : (kind : ℕ) (n x : Cell) → kind ≡ 2 → (n.class ≡ x.class → ⊥) → cell 0 x.class ≡ becomes kind n x
-unfolding becomes same
-becomes-null kind n x e p =
-    let f = and-false-right (eqb x.value n.value) (eqb x.class n.class) (ne_eqb _ _ (λ q. p (sym q))) in
-    rw (e, f)
-
-pub becomes-other : (kind : ℕ) (n x : Cell) → kind ≡ 2 → (x.value ≡ n.value → ⊥) → cell 0 x.class ≡ becomes kind n x
-unfolding becomes same
-becomes-other kind n x e p = rw (e, ne_eqb _ _ p)
-
-pub becomes-class : (kind : ℕ) (n x : Cell) → (kind ≡ 1 → ⊥) → x.class ≡ (becomes kind n x).class
-unfolding becomes
-becomes-class kind n x e = rw (ne_eqb kind 1 e) (cases (eqb kind 2) (λ t. cases (same x n) (λ u. rw (t, u)) (λ u. rw (t, u))) (λ t. rw t))
 
 cell_same : (r i k : ℕ) (x : Cell) (B : Level) → x ≡ B.rows r i k → with_cell r i k x B ≡ B
 unfolding with_cell
@@ -64,12 +39,12 @@ cell_same r i k x B e =
     (λ u. rw (t, u)))
     (λ t. rw t))
 
-module _ (kind : ℕ) (n : Cell) (c : ℕ) where
-  turned_same : (x : Cell) → (x.class ≡ c → ⊥) → turned_by kind n c x ≡ x
+module _ (h : Change) (c : ℕ) where
+  turned_same : (x : Cell) → (x.class ≡ c → ⊥) → turned_by h c x ≡ x
   unfolding turned_by
-  turned_same x h = rw (ne_eqb x.class c h)
+  turned_same x n = rw (ne_eqb x.class c n)
 
-  turned-own : (x : Cell) → x.class ≡ c → turned_by kind n c x ≡ becomes kind n x
+  turned-own : (x : Cell) → x.class ≡ c → turned_by h c x ≡ becomes h x
   unfolding turned_by
   turned-own x e = rw (eq-eqb x.class c e)
 
@@ -78,42 +53,42 @@ module _ (kind : ℕ) (n : Cell) (c : ℕ) where
     S = state_of d (holding vs cs)
 
     -- a cell of another class stays
-    pub cell-kept : (class_at d cs r l i k ≡ c → ⊥) → S ≡ change_level l (with_cell r i k (turned_by kind n c ((S l).rows r i k))) S
-    cell-kept h =
-        change-same l _ S (cell_same r i k _ (S l) (turned_same ((S l).rows r i k) (λ e. h (sym (ap (λ (x : Cell). x.class) (state-cell d vs cs r l i k)) ∙ e))))
+    pub cell-kept : (class_at d cs r l i k ≡ c → ⊥) → S ≡ change_level l (with_cell r i k (turned_by h c ((S l).rows r i k))) S
+    cell-kept n =
+        change-same l _ S (cell_same r i k _ (S l) (turned_same ((S l).rows r i k) (λ e. n (sym (ap (λ (x : Cell). x.class) (state-cell d vs cs r l i k)) ∙ e))))
 
     -- a cell of the subject's class is stored as it becomes
-    pub cell-turned : {v w o : ℕ} {S' : State} → v ≡ value_at d vs r l i k → class_at d cs r l i k ≡ c
-        → w ≡ (becomes kind n (cell v c)).value → o ≡ (becomes kind n (cell v c)).class
-        → S' ≡ change_level l (with_cell r i k (cell w o)) S → S' ≡ change_level l (with_cell r i k (turned_by kind n c ((S l).rows r i k))) S
-    cell-turned {v} {w} {o} e q p g h =
-        h ∙ ap (λ (x : Cell). change_level l (with_cell r i k x) S) (ap₂ cell p g ∙ sym (rw (state-cell d vs cs r l i k, ← e, q) (turned-own (cell v c) refl)))
+    pub cell-turned : {v : ℕ} {y : Cell} {S' : State} → v ≡ value_at d vs r l i k → class_at d cs r l i k ≡ c → y ≡ becomes h (cell v c)
+        → S' ≡ change_level l (with_cell r i k y) S → S' ≡ change_level l (with_cell r i k (turned_by h c ((S l).rows r i k))) S
+    cell-turned {v} e q p g =
+        g ∙ ap (λ (x : Cell). change_level l (with_cell r i k x) S) (p ∙ sym (rw (state-cell d vs cs r l i k, ← e, q) (turned-own (cell v c) refl)))
 
 -- ---- a row
 
 -- the next cell of a row is not yet changed
-row_next : (n r i : ℕ) (R : Row) (B : Level) → (with_row n r i R B).rows r i (n + 1) ≡ B.rows r i (n + 1)
+row_still : (k r i : ℕ) (R : Row) (B : Level) → 1 ≤ k → (with_row (pred k) r i R B).rows r i k ≡ B.rows r i k
 unfolding with_row
-row_next n r i R B = rw (eq-eqb r r refl, eq-eqb i i refl, is_false (between-r 1 n (n + 1)) (λ h. omega (arith, h.1)))
+row_still zero r i R B h = absurd (omega arith)
+row_still (suc n) r i R B h = rw (eq-eqb r r refl, eq-eqb i i refl, is_false (between-r 1 n (suc n)) (λ g. omega (arith, g.1)))
 
 -- a row's cells, each written as g makes it of what it was
-cells-more : (l n r i : ℕ) (g : ℕ → Cell → Cell) (S₀ : State) {S S' : State} → S ≡ change_level l (with_row n r i (λ k. g k ((S₀ l).rows r i k))) S₀
-    → S' ≡ change_level l (with_cell r i (n + 1) (g (n + 1) ((S l).rows r i (n + 1)))) S → S' ≡ change_level l (with_row (n + 1) r i (λ k. g k ((S₀ l).rows r i k))) S₀
-cells-more l n r i g S₀ {S} {S'} p q =
-    row_more l n r i (λ k. g k ((S₀ l).rows r i k)) S₀ p (q ∙ ap (λ (x : Cell). change_level l (with_cell r i (n + 1) (g (n + 1) x)) S) still)
+cells-more : (l k r i : ℕ) (g : ℕ → Cell → Cell) (S₀ : State) {S S' : State} → 1 ≤ k → S ≡ change_level l (with_row (pred k) r i (λ m. g m ((S₀ l).rows r i m))) S₀
+    → S' ≡ change_level l (with_cell r i k (g k ((S l).rows r i k))) S → S' ≡ change_level l (with_row k r i (λ m. g m ((S₀ l).rows r i m))) S₀
+cells-more l k r i g S₀ {S} {S'} h p q =
+    row-next l k r i (λ m. g m ((S₀ l).rows r i m)) S₀ h p (q ∙ ap (λ (x : Cell). change_level l (with_cell r i k (g k x)) S) still)
   where
-    still : (S l).rows r i (n + 1) ≡ (S₀ l).rows r i (n + 1)
+    still : (S l).rows r i k ≡ (S₀ l).rows r i k
     still =
-        ap (λ (T : State). (T l).rows r i (n + 1)) p
-        ∙ ap (λ (B : Level). B.rows r i (n + 1)) (change-here l (with_row n r i (λ k. g k ((S₀ l).rows r i k))) S₀)
-        ∙ row_next n r i (λ k. g k ((S₀ l).rows r i k)) (S₀ l)
+        ap (λ (T : State). (T l).rows r i k) p
+        ∙ ap (λ (B : Level). B.rows r i k) (change-here l (with_row (pred k) r i (λ m. g m ((S₀ l).rows r i m))) S₀)
+        ∙ row_still k r i (λ m. g m ((S₀ l).rows r i m)) (S₀ l) h
 
-pub cells-turned : (d : Description) (vs cs : List ℕ) (l n r i : ℕ) (ks us os : List ℕ) (c : ℕ) {S S' : State}
-    → S ≡ change_level l (with_row n r i (λ k. turned ks us os c k ((state_of d (holding vs cs) l).rows r i k))) (state_of d (holding vs cs))
-    → S' ≡ change_level l (with_cell r i (n + 1) (turned_by (get_or ks (n + 1) 0) (cell (get_or us (n + 1) 0) (get_or os (n + 1) 0)) c ((S l).rows r i (n + 1)))) S
-    → S' ≡ change_level l (with_row (n + 1) r i (λ k. turned ks us os c k ((state_of d (holding vs cs) l).rows r i k))) (state_of d (holding vs cs))
+pub cells-turned : (d : Description) (vs cs : List ℕ) (l k r i : ℕ) (hs : List Change) (c : ℕ) {S S' : State} → 1 ≤ k
+    → S ≡ change_level l (with_row (pred k) r i (λ m. turned hs c m ((state_of d (holding vs cs) l).rows r i m))) (state_of d (holding vs cs))
+    → S' ≡ change_level l (with_cell r i k (turned_by (get_or hs k Changes.Keep) c ((S l).rows r i k))) S
+    → S' ≡ change_level l (with_row k r i (λ m. turned hs c m ((state_of d (holding vs cs) l).rows r i m))) (state_of d (holding vs cs))
 unfolding turned
-cells-turned d vs cs l n r i ks us os c p q = cells-more l n r i (turned ks us os c) (state_of d (holding vs cs)) p q
+cells-turned d vs cs l k r i hs c h p q = cells-more l k r i (turned hs c) (state_of d (holding vs cs)) h p q
 
 module _ (d : Description) (vs cs : List ℕ) (n m r l i : ℕ) (P : Plan) (c : ℕ) where
   abbrev T : State
@@ -143,7 +118,7 @@ module _ (d : Description) (vs cs : List ℕ) (n m r l i : ℕ) (P : Plan) (c : 
     row-emptied g p h = h ∙ ap (λ (R : Row). change_level l (with_row m r i R) T) (fun_ext (λ k. rw (is-touched, g, class-is, p)))
 
     -- the cells of any other row change
-    pub row-turned : (P.gone && eqb q c) ≡ false → {S : State} → S ≡ change_level l (with_row m r i (λ k. turned P.kinds P.values P.classes c k ((T l).rows r i k))) T → S ≡ change_level l (with_row m r i after) T
+    pub row-turned : (P.gone && eqb q c) ≡ false → {S : State} → S ≡ change_level l (with_row m r i (λ k. turned P.changes c k ((T l).rows r i k))) T → S ≡ change_level l (with_row m r i after) T
     unfolding row_after
     row-turned g h = h ∙ ap (λ (R : Row). change_level l (with_row m r i R) T) (fun_ext (λ k. rw (is-touched, class-is, g)))
 

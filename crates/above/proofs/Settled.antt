@@ -6,8 +6,8 @@ use lib.ListN.{length}
 use Rattle.level.proofs.Settled.{Settled}
 use Rattle.model.specs.Buffers.{holding}
 use Rattle.cells.proofs.Settled.{one-buffers}
-use Rattle.above.proofs.find.touched.Reads as touched
-use Rattle.above.proofs.find.gone.Reads as gone
+use Rattle.above.proofs.reach.Reached.touched.Reads as touched
+use Rattle.above.proofs.reach.Reached.gone.Reads as gone
 use Rattle.above.proofs.find.agree.Reads as agree
 use Rattle.above.proofs.above.Reads as above
 

@@ -6,10 +6,9 @@ use mathlib.Core.Bool.{Bool, true, false}
 use mathlib.Core.Logic.{◌≢◌}
 use mathlib.Core.List.{List}
 use native.Mathlib.Omega.{arith}
-use lib.Dec.{eqb, ltb, leb}
+use lib.Dec.{eqb}
 use lib.ListN.{get_or}
-use borrow.Author.Tests.{lt-ltb, le-ltb, ltb-true, ltb-false, lt-leb, le-leb, eq-eqb, ne_eqb}
-use Rattle.bounded.proofs.Cases.{cases}
+use borrow.Author.Tests.{lt-ltb, le-ltb, eq-eqb, ne_eqb}
 use Rattle.bounded.proofs.First.{First, found, absent, first-cases}
 use Rattle.bounded.proofs.Reflection.{of-true, of-false, eqb-r}
 use Rattle.model.specs.declared.Description.{Description}
@@ -101,12 +100,13 @@ module _ (d : Description) (vs cs : List ℕ) where
     abbrev agree : Bool
     agree = same (at d (rows_of S) r a v 1) (at d (rows_of S) r b v 1)
 
-    pub agree-none : row_count d r ≤ i → leb (row_count d r) j ≡ agree
+    pub agree-none : row_count d r ≤ i → row_count d r ≤ j → true ≡ agree
     unfolding same
-    agree-none h =
-        cases (ltb j (row_count d r))
-        (λ t. let g = ltb-true _ _ t in rw (at-nowhere d vs cs r a v e h, at_there d vs cs r b v f g, ne_eqb 0 v (λ z. nz (sym z)), lt-leb (row_count d r) j g))
-        (λ t. let g = ltb-false _ _ t in rw (at-nowhere d vs cs r a v e h, at-nowhere d vs cs r b v f g, le-leb (row_count d r) j g))
+    agree-none h g = rw (at-nowhere d vs cs r a v e h, at-nowhere d vs cs r b v f g)
+
+    pub agree-other : row_count d r ≤ i → j < row_count d r → false ≡ agree
+    unfolding same
+    agree-other h g = rw (at-nowhere d vs cs r a v e h, at_there d vs cs r b v f g, ne_eqb 0 v (λ z. nz (sym z)))
 
     pub agree-one : i < row_count d r → row_count d r ≤ j → false ≡ agree
     unfolding same

@@ -2,7 +2,7 @@
 -- Assumes nothing.
 use Rattle.std.specs.Prelude.{if◌then◌else◌}
 use Prim.Native.Nat.{ℕ, ◌<◌}
-use mathlib.Core.Path.{◌≡◌, sym, ap, ap₂, ◌∙◌}
+use mathlib.Core.Path.{◌≡◌, refl, sym, ap, ◌∙◌}
 use mathlib.Core.Bool.{Bool, true, false, not, ◌&&◌}
 use mathlib.Core.Logic.{◌≢◌}
 use native.Mathlib.Omega.{arith}
@@ -10,7 +10,7 @@ use lib.Dec.{eqb}
 use lib.ListN.{get_or}
 use lib.Seq.{get_or-set_same, get_or-set_other}
 use borrow.Author.Tests.{eq-eqb, ne_eqb, eqb-true, eqb-false}
-use Rattle.bounded.proofs.Cases.{cases}
+use Rattle.bounded.proofs.Cases.{cases, and-false-right}
 use Rattle.model.specs.declared.Description.{Description}
 use Rattle.model.specs.Description.{foreign_of, refers_of, is_relation, sound}
 use Rattle.model.specs.Tables.{Cell, cell, same, State, rows_of, at, own_null}
@@ -19,7 +19,9 @@ use Rattle.theory.proofs.Fine.{cell-path}
 use Rattle.theory.proofs.Reach.{null-value}
 use Rattle.cells.proofs.Counts.{relation-is, foreign-is, target-relation}
 use Rattle.above.specs.declared.plan.Plan.{Plan}
-use Rattle.above.specs.Facts.{change_of, becomes, lost_by, handed, given_by, Planned}
+use Rattle.above.specs.declared.plan.Change.{Change}
+use Rattle.above.specs.declared.plan.Change.TheVariants as Changes
+use Rattle.above.specs.Facts.{effect_of, planned, change_of, becomes, lost_as, lost_by, handed, given_by, Planned}
 
 -- ---- the relation that is referred to
 
@@ -39,6 +41,13 @@ module _ (d : Description) (z : sound d ≡ true) (r : ℕ) (h : is_relation d r
 
 -- ---- whether it is lost
 
+-- what is not taken is not lost
+untaken : (d : Description) (r c : ℕ) (S : State) (l : ℕ) (h : Change) → ((v o : ℕ) → h ≡ Changes.Take v o → ⊥) → lost_as d r c S l h ≡ false
+unfolding lost_as
+untaken d r c S l Changes.Keep n = refl
+untaken d r c S l (Changes.Take v o) n = absurd (n v o refl)
+untaken d r c S l (Changes.Only v o) n = refl
+
 module _ (d : Description) (r : ℕ) (P : Plan) (c : ℕ) (S : State) (l : ℕ) {k : ℕ} (e : k ≡ foreign_of d r) where
   abbrev lost : Bool
   lost = lost_by d r P c S l
@@ -47,20 +56,19 @@ module _ (d : Description) (r : ℕ) (P : Plan) (c : ℕ) (S : State) (l : ℕ) 
   unfolding lost_by
   lost-unreferring z = rw (← e, z)
 
-  module _ (nz : k ≢ 0) where
-    pub lost-untaken : get_or P.kinds k 0 ≢ 1 → false ≡ lost
-    unfolding lost_by
-    lost-untaken n = rw (← e, ne_eqb k 0 nz, ne_eqb _ 1 n)
+  pub lost-untaken : ((v o : ℕ) → planned P k ≡ Changes.Take v o → ⊥) → false ≡ lost
+  unfolding lost_by
+  lost-untaken n = rw (← e, untaken d r c S l (planned P k) n) (sym (and-false-right (not (eqb k 0)) false refl))
 
-    module _ (one : get_or P.kinds k 0 ≡ 1) where
-      pub lost-null : get_or P.values k 0 ≡ 0 → false ≡ lost
-      unfolding lost_by
-      lost-null z = rw (← e, ne_eqb k 0 nz, one, z)
+  module _ (nz : k ≢ 0) {v o : ℕ} (is : planned P k ≡ Changes.Take v o) where
+    pub lost-null : v ≡ 0 → false ≡ lost
+    unfolding lost_by lost_as
+    lost-null z = rw (← e, is, ne_eqb k 0 nz, z)
 
-      pub lost-named : get_or P.values k 0 ≢ 0 → {t : ℕ} {b : Bool} → t ≡ refers_of d r
-          → b ≡ same (at d (rows_of S) t l (get_or P.values k 0) 1) (at d (rows_of S) t c (get_or P.values k 0) 1) → not b ≡ lost
-      unfolding lost_by agrees
-      lost-named n q p = rw (← e, ne_eqb k 0 nz, one, ne_eqb _ 0 n, p, q)
+    pub lost-named : v ≢ 0 → {t : ℕ} {b : Bool} → t ≡ refers_of d r
+        → b ≡ same (at d (rows_of S) t l v 1) (at d (rows_of S) t c v 1) → not b ≡ lost
+    unfolding lost_by lost_as agrees
+    lost-named n q p = rw (← e, is, ne_eqb k 0 nz, ne_eqb v 0 n, p, q)
 
 -- ---- the plan at a level
 
@@ -86,80 +94,60 @@ module _ (d : Description) (r c l : ℕ) (P : Plan) (S : State) (Q : Planned d r
   unfolding given_by handed
   given-gone = cases (lost_by d r P c S l) (λ t. rw t) (λ t. rw t)
 
-  given-kinds : G.kinds ≡ P.kinds
-  unfolding given_by handed
-  given-kinds = cases (lost_by d r P c S l) (λ t. rw t) (λ t. rw t)
-
   given-kept : lost_by d r P c S l ≡ false → G ≡ P
   unfolding given_by
   given-kept t = rw t
 
-  given-value : (k : ℕ) → k ≢ foreign_of d r → get_or G.values k 0 ≡ get_or P.values k 0
+  given-other : (k : ℕ) → k ≢ foreign_of d r → planned G k ≡ planned P k
   unfolding given_by handed
-  given-value k n = cases (lost_by d r P c S l) (λ t. rw t (get_or-set_other P.values (foreign_of d r) k 0 0 n)) (λ t. rw t)
+  given-other k n = cases (lost_by d r P c S l) (λ t. rw t (get_or-set_other P.changes (foreign_of d r) k _ Changes.Keep n)) (λ t. rw t)
 
-  given-class : (k : ℕ) → k ≢ foreign_of d r → get_or G.classes k 0 ≡ get_or P.classes k 0
+  given-null : lost_by d r P c S l ≡ true → planned G (foreign_of d r) ≡ Changes.Take 0 (own_null d r (foreign_of d r) l).class
   unfolding given_by handed
-  given-class k n = cases (lost_by d r P c S l) (λ t. rw t (get_or-set_other P.classes (foreign_of d r) k (own_null d r (foreign_of d r) l).class 0 n)) (λ t. rw t)
+  given-null t = rw t (get_or-set_same P.changes (foreign_of d r) _ Changes.Keep (omega (arith, Q.changes)))
 
-  lost-value : lost_by d r P c S l ≡ true → get_or G.values (foreign_of d r) 0 ≡ 0
-  unfolding given_by handed
-  lost-value t = rw t (get_or-set_same P.values (foreign_of d r) 0 0 (omega (arith, Q.values)))
-
-  lost-class : lost_by d r P c S l ≡ true → get_or G.classes (foreign_of d r) 0 ≡ (own_null d r (foreign_of d r) l).class
-  unfolding given_by handed
-  lost-class t = rw t (get_or-set_same P.classes (foreign_of d r) (own_null d r (foreign_of d r) l).class 0 (omega (arith, Q.classes)))
-
-  -- where a reference is taken
-  lost-is : foreign_of d r ≢ 0 → get_or P.kinds (foreign_of d r) 0 ≡ 1
-      → lost_by d r P c S l ≡ (not (eqb (get_or P.values (foreign_of d r) 0) 0) && not (agrees d (at d (rows_of S)) r l c (get_or P.values (foreign_of d r) 0)))
+  not-lost : {h : Change} → planned P (foreign_of d r) ≡ h → ((v o : ℕ) → h ≡ Changes.Take v o → ⊥) → lost_by d r P c S l ≡ false
   unfolding lost_by
-  lost-is n e = rw (ne_eqb (foreign_of d r) 0 n, eq-eqb _ 1 e)
+  not-lost e n = rw (e, untaken d r c S l _ n) (and-false-right (not (eqb (foreign_of d r) 0)) false refl)
 
-  not-lost : get_or P.kinds (foreign_of d r) 0 ≢ 1 → lost_by d r P c S l ≡ false
-  unfolding lost_by
-  not-lost n = cases (eqb (foreign_of d r) 0) (λ t. rw t) (λ t. rw (t, ne_eqb _ 1 n))
-
-  abbrev New : Plan → ℕ → Cell
-  New X k = cell (get_or X.values k 0) (get_or X.classes k 0)
-
-  given-cell : (k : ℕ) → (k ≡ foreign_of d r → lost_by d r P c S l ≡ false) → New G k ≡ New P k
-  given-cell k h =
+  -- the change stays, where no reference in that column is lost
+  given-as : (k : ℕ) {h : Change} → planned P k ≡ h → (k ≡ foreign_of d r → lost_by d r P c S l ≡ false) → planned G k ≡ h
+  given-as k e h =
       cases (eqb k (foreign_of d r))
-      (λ t. ap (λ (X : Plan). New X k) (given-kept (h (eqb-true _ _ t))))
-      (λ t. ap₂ cell (given-value k (eqb-false _ _ t)) (given-class k (eqb-false _ _ t)))
-
-  lost-cell : lost_by d r P c S l ≡ true → New G (foreign_of d r) ≡ own_null d r (foreign_of d r) l
-  lost-cell t = cell-path (lost-value t ∙ sym (null-value d r (foreign_of d r) l)) (lost-class t)
+      (λ t. ap (λ (X : Plan). planned X k) (given-kept (h (eqb-true _ _ t))) ∙ e)
+      (λ t. given-other k (eqb-false _ _ t) ∙ e)
 
   module _ (k : ℕ) (least : 0 < k) where
-    taken : (x : Cell) → get_or P.kinds k 0 ≡ 1 → changed d (at d (rows_of S)) c r l k (take (get_or P.values k 0)) x ≡ New G k
-    unfolding changed
-    taken x e = cases (eqb k (foreign_of d r)) (λ t. here (eqb-true _ _ t)) (λ t. rw t (there (λ q. absurd (eqb-false _ _ t q))))
-      where
-        there : (k ≡ foreign_of d r → lost_by d r P c S l ≡ false) → cell (get_or P.values k 0) c ≡ New G k
-        there h = sym (given-cell k h ∙ ap (cell (get_or P.values k 0)) (Q.own k e))
+    module _ (x : Cell) (v o : ℕ) (e : planned P k ≡ Changes.Take v o) where
+      taken-kept : (k ≡ foreign_of d r → lost_by d r P c S l ≡ false) → cell v c ≡ becomes (planned G k) x
+      unfolding becomes
+      taken-kept h = rw (given-as k e h) (ap (cell v) (sym (Q.own k v o e)))
 
-        here : k ≡ foreign_of d r → (if eqb k (foreign_of d r) && (not (eqb (get_or P.values k 0) 0) && not (agrees d (at d (rows_of S)) r l c (get_or P.values k 0))) then own_null d r k l else cell (get_or P.values k 0) c) ≡ New G k
-        here q =
-            cases (lost_by d r P c S l)
-            (λ t. rw (eq-eqb _ _ q, q, sym is ∙ t) (sym (lost-cell t)))
-            (λ t. rw (eq-eqb _ _ q, at-k ∙ t) (there (λ _. t)))
-          where
-            is : lost_by d r P c S l ≡ (not (eqb (get_or P.values (foreign_of d r) 0) 0) && not (agrees d (at d (rows_of S)) r l c (get_or P.values (foreign_of d r) 0)))
-            is = lost-is (λ z. omega arith) (rw q at e)
+      taken-null : k ≡ foreign_of d r → lost_by d r P c S l ≡ true → own_null d r k l ≡ becomes (planned G k) x
+      unfolding becomes
+      taken-null q t = rw (q, given-null t) (cell-path (null-value d r (foreign_of d r) l) refl)
 
-            at-k : (not (eqb (get_or P.values k 0) 0) && not (agrees d (at d (rows_of S)) r l c (get_or P.values k 0))) ≡ lost_by d r P c S l
-            at-k = rw q (sym is)
+      -- where a reference is taken
+      lost-is : k ≡ foreign_of d r → lost_by d r P c S l ≡ (not (eqb v 0) && not (agrees d (at d (rows_of S)) r l c v))
+      unfolding lost_by lost_as
+      lost-is q = rw (← q, e, ne_eqb k 0 (λ z. omega arith))
+
+      taken : changed d (at d (rows_of S)) c r l k (take v) x ≡ becomes (planned G k) x
+      unfolding changed
+      taken = cases (eqb k (foreign_of d r)) (λ t. here (eqb-true _ _ t)) (λ t. rw t (taken-kept (λ q. absurd (eqb-false _ _ t q))))
+        where
+          here : k ≡ foreign_of d r → (if eqb k (foreign_of d r) && (not (eqb v 0) && not (agrees d (at d (rows_of S)) r l c v)) then own_null d r k l else cell v c) ≡ becomes (planned G k) x
+          here q =
+              cases (lost_by d r P c S l)
+              (λ t. rw (eq-eqb _ _ q, sym (lost-is q) ∙ t) (taken-null q t))
+              (λ t. rw (eq-eqb _ _ q, sym (lost-is q) ∙ t) (taken-kept (λ _. t)))
 
     -- what becomes of a cell of the subject's class in a touched row
-    pub turns : (x : Cell) → changed d (at d (rows_of S)) c r l k (change_of P k) x ≡ becomes (get_or G.kinds k 0) (New G k) x
-    unfolding change_of becomes changed
-    turns x =
-        rw given-kinds
-        (cases (eqb (get_or P.kinds k 0) 1)
-        (λ t. rw t (taken x (eqb-true _ _ t)))
-        (λ t. cases (eqb (get_or P.kinds k 0) 2)
-        (λ u. let g = given-cell k (λ q. not-lost (rw (← q) (eqb-false _ _ t))) in
-        rw (t, u, g))
-        (λ u. rw (t, u))))
+    pub turns : (x : Cell) → changed d (at d (rows_of S)) c r l k (change_of P k) x ≡ becomes (planned G k) x
+    unfolding change_of effect_of becomes changed
+    turns x = go (planned P k) refl
+      where
+        go : (h : Change) → planned P k ≡ h → changed d (at d (rows_of S)) c r l k (effect_of (planned P k)) x ≡ becomes (planned G k) x
+        go Changes.Keep e = rw (given-as k e (λ q. not-lost (rw q at e) (λ v o z. cc)), e)
+        go (Changes.Take v o) e = rw e (taken x v o e)
+        go (Changes.Only v o) e = rw (given-as k e (λ q. not-lost (rw q at e) (λ v o z. cc)), e)

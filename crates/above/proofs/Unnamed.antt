@@ -43,18 +43,18 @@ module _ (d : Description) (vs cs : List ℕ) (r l v : ℕ) where
   own-some x {i} e h q = rw (at_row d vs cs r l v e h, state-cell, key-is d vs cs r l v e h, eq-eqb x.value v q)
 
 -- whether the entity of row i at m has a row at l, from its key, its key class and the row that has the key at l
-module _ (d : Description) (vs cs : List ℕ) (r l m i : ℕ) {key class own rows : ℕ}
-    (k : key ≡ value_at d vs r m i 1) (o : class ≡ class_at d cs r m i 1) (f : own ≡ key_place d vs r l key) (n : rows ≡ row_count d r) where
+module _ (d : Description) (vs cs : List ℕ) (r l m i : ℕ) {key class own : ℕ}
+    (k : key ≡ value_at d vs r m i 1) (o : class ≡ class_at d cs r m i 1) (f : own ≡ key_place d vs r l key) where
   abbrev owned : Bool
   owned = same ((state_of d (holding vs cs) m).rows r i 1) (at d (rows_of (state_of d (holding vs cs))) r l ((state_of d (holding vs cs) m).rows r i 1).value 1)
 
-  pub owns-null : rows ≤ own → key ≡ 0 → eqb class 255 ≡ owned
+  pub owns-null : row_count d r ≤ own → key ≡ 0 → eqb class 255 ≡ owned
   owns-null h z = let g : row_count d r ≤ key_place d vs r l key = omega arith in rw (state-cell, ← k, ← o, own-none d vs cs r l key (cell key class) g, eq-eqb key 0 z)
 
-  pub owns_not : rows ≤ own → key ≢ 0 → eqb key 0 ≡ owned
+  pub owns_not : row_count d r ≤ own → key ≢ 0 → eqb key 0 ≡ owned
   owns_not h z = let g : row_count d r ≤ key_place d vs r l key = omega arith in rw (state-cell, ← k, ← o, own-none d vs cs r l key (cell key class) g, ne_eqb key 0 z)
 
-  pub owns-some : own < rows → {x : ℕ} → x ≡ class_at d cs r l own 1 → eqb x class ≡ owned
+  pub owns-some : own < row_count d r → {x : ℕ} → x ≡ class_at d cs r l own 1 → eqb x class ≡ owned
   owns-some h {x} e = rw (state-cell, ← k, ← o, own-some d vs cs r l key (cell key class) f (omega arith) refl, ← e) (eqb_swap x class)
 
 -- whether the cell in column k has class c, and more is known

@@ -87,6 +87,7 @@ pub fn agree(values: &[u32], classes: &[u8], part: Part, one: usize, other: usiz
             let class = part.class_at(classes, other, there, 1);
             part.class_at(classes, one, here, 1) == class
         }
-        _ => false,
+        (None, Some(_)) => false,
+        (Some(_), None) => false,
     }
 }

@@ -6,32 +6,22 @@ use Rattle.above.proofs.above.Goals as goal
 -- The invariant: the levels that were passed are as they are left, and the others have not changed.
 
 pub loop-level-init : goal.loop-level-init
-loop-level-init c = (omega arith, refl, refl, levels-start _ _ _ _ _)
+loop-level-init c = (refl, refl, levels-start _ _ _ _ _)
 
 pub reach-requires : goal.reach-requires
 reach-requires c = let l = c.loop-level in
     let W = c.requires.carrying.1 in record {
       carrying = (
-        record { laid = c.requires.carrying.0.laid; values = l.invariant.1 ∙ c.requires.carrying.0.values; classes = l.invariant.2 ∙ c.requires.carrying.0.classes },
-        working-as _ _ _ _ _ _ W c.requires.planned_in _ l.invariant.3,
+        record { values = l.invariant.0 ∙ c.requires.carrying.0.values; classes = l.invariant.1 ∙ c.requires.carrying.0.classes },
+        working-as _ _ _ _ _ W c.requires.planned_in _ l.invariant.2,
       );
-      planned_in = (planned-as _ _ _ _ _ _ W c.requires.planned_in _ l.invariant.3, c.loop-level-test.true);
+      planned_in = (planned-as _ _ _ _ _ W c.requires.planned_in _ l.invariant.2, c.loop-level-test.true);
     }
 
-pub loop-level-smaller : goal.loop-level-smaller
-loop-level-smaller c = omega arith
-
 pub loop-level-preserved : goal.loop-level-preserved
-loop-level-preserved c = let k = c.reach in
-    let l = c.loop-level in
-    (omega arith, c.reach.auto.values ∙ l.invariant.1, c.reach.auto.classes ∙ l.invariant.2, levels-more _ _ _ _ _ _ l.invariant.3 k.ensures)
-
-pub shape_of-values : goal.shape_of-values
-shape_of-values c = c.loop-level.invariant.1
-
-pub shape_of-classes : goal.shape_of-classes
-shape_of-classes c = c.loop-level.invariant.2
+loop-level-preserved c = let l = c.loop-level in
+    (c.reach.auto.values ∙ l.invariant.0, c.reach.auto.classes ∙ l.invariant.1, levels-more _ _ _ _ _ _ l.invariant.2 c.reach.ensures)
 
 pub returns : goal.returns
 returns c = let l = c.loop-level in
-    levels-end _ _ _ _ _ _ _ c.requires.carrying.1 l.invariant.3 (omega (arith, l.invariant.0, c.loop-level-test.false))
+    levels-end _ _ _ _ _ _ c.requires.carrying.1 l.invariant.2 (omega (arith, l.auto.level-end, c.loop-level-test.false))

@@ -1,5 +1,5 @@
 use mathlib.Core.Path.{sym, ◌∙◌}
-use native.Mathlib.Nat.{le_of_lt}
+use Rattle.bounded.proofs.Found.{some-found}
 use Rattle.cells.proofs.Sought.{key-inside}
 use Rattle.above.proofs.Sought.{key_here}
 use Rattle.above.proofs.find.near.Goals as goal
@@ -8,7 +8,5 @@ pub value_at-requires : goal.value_at-requires
 value_at-requires c = record { sized = c.requires.sized.0; cell_inside = key-inside _ _ _ _ c.requires.sized.1.level c.requires.sized.1.row }
 
 pub returns-then-value_at-key : goal.returns-then-value_at-key
-returns-then-value_at-key c = record {
-  is = key_here _ _ _ _ _ _ c.requires.one_row.0 c.requires.one_row.1 c.requires.sized.1.row (sym c.value_at.ensures ∙ c.if-value_at-key.true);
-  most = le_of_lt c.requires.sized.1.row;
-}
+returns-then-value_at-key c = let e = key_here _ _ _ _ _ _ c.requires.one_row.0 c.requires.one_row.1 c.requires.sized.1.row (sym c.value_at.ensures ∙ c.if-value_at-key.true) in
+    some-found e c.requires.sized.1.row

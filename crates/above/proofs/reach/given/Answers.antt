@@ -6,13 +6,13 @@ pub returns-then-not-lost : goal.returns-then-not-lost
 returns-then-not-lost c = given-whole _ _ _ _ _ _ c.lost.ensures c.if-not-lost.true
 
 pub hand-requires : goal.hand-requires
-hand-requires c = foreign-few _ c.requires.reaching.0.sound-is _ c.requires.reaching.0.relation
+hand-requires c = foreign-few _ c.requires.sound-is _ c.requires.relation
 
 pub returns : goal.returns
 returns c = given-handed
     _ _ _ _ _ _
     c.lost.ensures
     c.if-not-lost.false
-    (foreign-is _ _ c.requires.reaching.0.relation)
-    c.null-class.ensures
+    (foreign-is _ _ c.requires.relation)
+    (rw (c.columns.ensures.described, c.columns.ensures.of_relation) at c.null-class.ensures)
     c.hand.ensures

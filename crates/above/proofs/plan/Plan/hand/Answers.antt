@@ -1,6 +1,6 @@
 use mathlib.Core.Path.{refl}
 use Rattle.above.specs.Facts.{handed}
-use Rattle.above.proofs.reach.hand.Goals as goal
+use Rattle.above.proofs.plan.Plan.hand.Goals as goal
 
 pub returns : goal.returns
 unfolding handed
