@@ -3,11 +3,10 @@
 use mathlib.Core.Path.{◌≡◌, sym, ◌∙◌}
 use mathlib.Core.Bool.{Bool, true, false, ◌&&◌}
 use mathlib.Core.List.{List}
-use mathlib.Core.Logic.{◌≢◌}
-use Prim.Native.Nat.{ℕ, ◌+◌, ◌*◌, ◌≤◌, ◌<◌}
+use Prim.Native.Nat.{ℕ, ◌+◌, ◌*◌, ◌<◌}
 use native.Mathlib.Omega.{arith}
 use lib.ListN.{get_or}
-use Rattle.bounded.proofs.Reflection.{is_true, is_false}
+use Rattle.bounded.proofs.Reflection.{of-true}
 use Rattle.level.specs.Order.{entry_of}
 use Rattle.level.proofs.Levels.{order-laws}
 use Rattle.model.specs.declared.Description.{Description}
@@ -22,15 +21,9 @@ over-entry d order O a b = rw O.order_is ((order-laws d.labels d.levels).entries
 
 -- ---- a level in a column's range, one law for each way through the code
 
-module _ (d : Description) (r columns k : ℕ) (R : Related d r columns) where
-  pub column-zero : k ≡ 0 → is_column d r k ≡ false
-  column-zero e = is_false (column-r d r k) (λ h. omega (arith, h.0))
-
-  pub column-past : columns < k → is_column d r k ≡ false
-  column-past l = is_false (column-r d r k) (λ h. omega (arith, h.1, R.is))
-
-  pub column-is : k ≢ 0 → k ≤ columns → is_column d r k ≡ true
-  column-is n h = is_true (column-r d r k) (omega arith, omega (arith, R.is))
+module _ (d : Description) (r k : ℕ) where
+  pub in_ranges : (columns : ℕ) → Related d r columns → {b : Bool} → b ≡ is_column d r k → b ≡ true → 9 * r + k < 81
+  in_ranges columns R e t = let f = of-true (column-r d r k) (sym e ∙ t) in omega (arith, f.1, R.relation, R.is, R.narrow)
 
   module _ (c : ℕ) where
     pub range_none : is_column d r k ≡ false → false ≡ in_range d r k c

@@ -1,3 +1,4 @@
+pub mod Lists
 pub mod Levelled
 pub mod Listing
 pub mod Settled

@@ -1,12 +1,18 @@
 -- What the readers of a statement's lists promise.
 -- Assumes nothing: these are definitions and statements.
-use Rattle.std.specs.Prelude.{◌≡◌, Bool, ◌&&◌, List, ℕ, eqb, Option}
+use Rattle.std.specs.Prelude.{◌≡◌, Bool, ◌&&◌, List, [], ℕ, eqb, get_or, Option}
 use Rattle.bounded.specs.Bounded.{first_below, some_below}
 use Rattle.model.specs.declared.Description.{Description}
 use Rattle.model.specs.Description.{is_level, is_column, over, in_range}
 use Rattle.model.specs.Listed.{pairs, column_at}
 use Rattle.asked.specs.declared.pairs.Rule.{Rule}
 use Rattle.asked.specs.declared.pairs.Rule.TheVariants as Rules
+
+-- ---- entries
+
+-- the number that entry i begins with
+unfoldable pub first_of : List (List ℕ) → ℕ → ℕ
+first_of entries i = get_or (get_or entries i []) 0 0
 
 -- ---- pairs
 

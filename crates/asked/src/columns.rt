@@ -1,6 +1,6 @@
 // The columns of a relation, and which levels they take.
 ghost use Rattle.std.specs.Prelude.{◌≡◌};
-ghost use Rattle.model.specs.Description.{in_range};
+ghost use Rattle.model.specs.Description.{in_range, is_column};
 ghost use Rattle.model.specs.Tables.{own_null};
 ghost use Rattle.asked.specs.Known.{Related};
 
@@ -16,14 +16,19 @@ pub struct Columns {
 }
 
 impl Columns {
-    // Whether a level is in the range of a column, which must exist.
+    // The column exists.
+    pub(crate) fn exists(self, column: usize) -> bool
+        ensures { result ≡ is_column self.levels.description self.relation column }
+    {
+        1 <= column && column <= self.count
+    }
+
+    // Whether a level is in the range of a column that exists.
+    #[tactic(auto, using(crate::proofs::Levelled::in_ranges))]
     pub(crate) fn takes(self, column: usize, level: usize) -> bool
         ensures { result ≡ in_range self.levels.description self.relation column level }
     {
-        if column == 0 {
-            return false;
-        }
-        if self.count < column {
+        if !self.exists(column) {
             return false;
         }
         let at = 9 * self.relation + column;

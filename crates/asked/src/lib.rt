@@ -2,6 +2,7 @@
 #![tactic(auto)]
 
 pub mod columns;
+mod entries;
 pub mod levels;
 pub mod pairs;
 pub mod table;

@@ -28,7 +28,6 @@ use Rattle.theory.proofs.Described.{sound-laws}
 use Rattle.theory.proofs.Judged.{judged}
 use Rattle.theory.proofs.Reach.{Side, at_c, over-c, off-c, side}
 use Rattle.theory.proofs.Seen.{seen-own}
-use Rattle.cells.specs.declared.layout.Part.{Part}
 use Rattle.cells.specs.Changed.{change_level}
 use Rattle.cells.proofs.Cells.{state-path}
 use Rattle.cells.proofs.Changes.{change-here, change-other}
@@ -161,7 +160,7 @@ any-counted (suc n) p =
 
 -- ---- what stands is enough for a plan
 
-module _ {d : Description} {order : List (List Bool)} {r c : ℕ} {p : Part} {vs cs : List ℕ} (K : Standing d order r c p vs cs) where
+module _ {d : Description} {r c : ℕ} {vs cs : List ℕ} (K : Standing d r c vs cs) where
   abbrev T : State
   T = state_of d (holding vs cs)
 
@@ -179,9 +178,9 @@ module _ {d : Description} {order : List (List Bool)} {r c : ℕ} {p : Part} {vs
   -- ---- the rows that meet the conditions
 
   module _ (conditions : List ℕ) {chosen : List Bool} (M : ChosenAt d r c conditions vs cs chosen) where
-    pub counted : {count : ℕ} → Counted p.rows chosen count → count ≡ met_rows d c r conditions (sight d c vs cs)
+    pub counted : {rows count : ℕ} → rows ≡ row_count d r → Counted rows chosen count → count ≡ met_rows d c r conditions (sight d c vs cs)
     unfolding met_rows
-    counted C = rw own-seen (count-met d conditions (row_count d r) ((T c).rows r) chosen M (rw K.laid.rows at C))
+    counted e C = rw own-seen (count-met d conditions (row_count d r) ((T c).rows r) chosen M (rw e at C))
 
     empty-past : (i : ℕ) → row_count d r ≤ i → ((T c).rows r i 1).value ≡ 0
     empty-past i h = ap (λ (x : Cell). x.value) (legal-of.outside r c i 1 h)
@@ -198,11 +197,10 @@ module _ {d : Description} {order : List (List Bool)} {r c : ℕ} {p : Part} {vs
         (λ t. rw (eqb-true s r t, eq-eqb r r refl) (sought-met d conditions (row_count d r) ((T c).rows r) chosen M v))
         (λ t. rw t)
 
-  pub working : Working d order r c T
+  pub working : Working d r c T
   working =
       record {
         sound-is = K.sound-is;
-        order_is = K.order_is;
         relation = K.relation;
         level = K.level;
         outside = λ s l i k h. legal-of.outside s l i k h;

@@ -21,7 +21,7 @@ use Rattle.model.specs.Buffers.{holding, state_of}
 use Rattle.model.proofs.Sound.{between-r, column-r}
 use Rattle.cells.specs.Changed.{value_at, class_at}
 use Rattle.cells.proofs.Cells.{state-cell}
-use Rattle.asked.specs.Facts.{Ordered}
+use Rattle.asked.specs.Known.{Ordered}
 use Rattle.conditions.specs.Facts.{passes_by, at_most, Line, Tested}
 use Rattle.asked.proofs.Levelled.{over-entry}
 

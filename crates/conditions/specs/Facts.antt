@@ -8,7 +8,7 @@ use Rattle.model.specs.Tables.{Row}
 use Rattle.model.specs.Buffers.{holding, state_of}
 use Rattle.model.specs.Conditions.{Condition, conditions_formed, meets, met}
 use Rattle.cells.specs.Changed.{value_at}
-use Rattle.asked.specs.Facts.{Ordered}
+use Rattle.asked.specs.Known.{Ordered}
 use Rattle.conditions.specs.declared.Asked.{Asked}
 
 -- a condition that was read from a list

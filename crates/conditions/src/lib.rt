@@ -6,11 +6,10 @@ ghost use Rattle.model.specs.Conditions.{condition_at, condition_count, conditio
 ghost use Rattle.model.specs.Description.{column_count, row_count};
 ghost use Rattle.model.specs.Buffers.{holding, state_of};
 ghost use Rattle.cells.specs.Layout.{Sized, Lent, InRow, InLevel};
-ghost use Rattle.asked.specs.Facts.{Ordered};
+ghost use Rattle.asked.specs.Known.{Ordered};
 ghost use Rattle.conditions.specs.Facts.{Line, Tested, Asking, ChosenBy, ChosenAt, NarrowedAt, Counted, passes_by, at_most, used_row, asks};
 
 use cells::layout::Part;
-use cells::read::{class_at, value_at};
 use model::Description;
 
 // One condition, as it is asked.
@@ -89,13 +88,11 @@ pub fn formed(conditions: &[u32], description: Description, relation: usize, col
     if 4 < count {
         return false;
     }
-    let mut i = 0;
-    while i < count {
+    for i in 0..count {
         let asked = read(conditions, i);
         if !condition(description, relation, columns, asked) {
             return false;
         }
-        i += 1;
     }
     true
 }
@@ -115,92 +112,70 @@ fn passes(test: u32, equal: bool, most: bool) -> bool
     }
 }
 
-// A value meets a test.
-fn value(asked: Asked, x: u32) -> bool
-    ensures { result ≡ meets_test leb 0 (asks asked) x }
-{
-    if x == 0 {
-        return asked.test == 5;
-    }
-    passes(asked.test, x == asked.constant, x <= asked.constant)
-}
-
-// A class meets a test; `line` has the levels that the constant dominates.
-fn class(description: Description, line: [bool; 16], asked: Asked, x: u8) -> bool
-    requires { Line description (asks asked).constant line }
-    ensures { result ≡ meets_test (at_most description) 255 (asks asked) x }
-{
-    if x == 255 {
-        return asked.test == 5;
-    }
-    let equal = x as u32 == asked.constant;
-    if 16 <= x {
-        return passes(asked.test, equal, false);
-    }
-    passes(asked.test, equal, line[x as usize])
-}
-
-// A row meets one condition; `line` has the levels that its constant dominates.
-fn meets(
-    values: &[u32],
-    classes: &[u8],
-    description: Description,
-    relation: usize,
+// A condition by which a relation's rows are chosen.
+#[derive(Clone, Copy)]
+struct Filter {
     part: Part,
-    level: usize,
-    row: usize,
-    line: [bool; 16],
     asked: Asked,
-) -> bool
-    requires lent { Lent description relation part (length values.now) (length classes.now) × InRow description relation level row }
-    requires tested { Tested description relation (asks asked) line }
-    ensures { result ≡ meets_of description (asks asked) ((state_of description (holding values.now classes.now) level).rows relation row) }
-{
-    let column = asked.column as usize;
-    if asked.mark != 0 {
-        let x = class_at(classes, description, relation, part, level, row, column);
-        return class(description, line, asked, x);
-    }
-    let x = value_at(values, description, relation, part, level, row, column);
-    value(asked, x)
+    // the levels that its constant dominates
+    line: [bool; 16],
+    ghost tested: { Tested part.description part.relation (asks asked) line },
 }
 
-// Of the chosen rows, those that meet one condition more.
-fn narrow(
-    values: &[u32],
-    classes: &[u8],
-    description: Description,
-    relation: usize,
-    part: Part,
-    level: usize,
-    chosen: [bool; 64],
-    line: [bool; 16],
-    asked: Asked,
-) -> [bool; 64]
-    requires lent { Lent description relation part (length values.now) (length classes.now) × InLevel description relation level }
-    requires tested { Tested description relation (asks asked) line }
-    ensures { NarrowedAt description relation level (asks asked) values.now classes.now chosen result }
-{
-    let mut left = chosen;
-    let rows = part.rows;
-    let mut row = 0;
-    while row < rows {
-        if left[row] {
-            left[row] = meets(
-                values,
-                classes,
-                description,
-                relation,
-                part,
-                level,
-                row,
-                line,
-                asked,
-            );
+impl Filter {
+    // A value meets it.
+    fn value(self, x: u32) -> bool
+        ensures { result ≡ meets_test leb 0 (asks self.asked) x }
+    {
+        if x == 0 {
+            return self.asked.test == 5;
         }
-        row += 1;
+        passes(
+            self.asked.test,
+            x == self.asked.constant,
+            x <= self.asked.constant,
+        )
     }
-    left
+
+    // A class meets it.
+    fn class(self, x: u8) -> bool
+        ensures { result ≡ meets_test (at_most self.part.description) 255 (asks self.asked) x }
+    {
+        if x == 255 {
+            return self.asked.test == 5;
+        }
+        let equal = x as u32 == self.asked.constant;
+        if 16 <= x {
+            return passes(self.asked.test, equal, false);
+        }
+        passes(self.asked.test, equal, self.line[x as usize])
+    }
+
+    // A row meets it.
+    fn meets(self, values: &[u32], classes: &[u8], level: usize, row: usize) -> bool
+        requires lent { Lent self.part.description (length values.now) (length classes.now) }
+        requires in_row { InRow self.part.description self.part.relation level row }
+        ensures { result ≡ meets_of self.part.description (asks self.asked) ((state_of self.part.description (holding values.now classes.now) level).rows self.part.relation row) }
+    {
+        let column = self.asked.column as usize;
+        if self.asked.mark != 0 {
+            return self.class(self.part.class_at(classes, level, row, column));
+        }
+        self.value(self.part.value_at(values, level, row, column))
+    }
+
+    // Of the chosen rows, those stay chosen that meet it.
+    fn narrow(self, values: &[u32], classes: &[u8], level: usize, chosen: &mut [bool; 64])
+        requires lent { Lent self.part.description (length values.now) (length classes.now) }
+        requires in_level { InLevel self.part.description self.part.relation level }
+        ensures { NarrowedAt self.part.description self.part.relation level (asks self.asked) values.now classes.now chosen.old chosen.new }
+    {
+        for row in 0..self.part.rows {
+            if chosen[row] {
+                chosen[row] = self.meets(values, classes, level, row);
+            }
+        }
+    }
 }
 
 // The levels that a constant dominates; none where it is no level.
@@ -215,57 +190,16 @@ fn line(description: Description, order: [[bool; 16]; 16], constant: u32) -> [bo
 }
 
 // The rows of a level that are in use.
-fn used(
-    values: &[u32],
-    description: Description,
-    relation: usize,
-    part: Part,
-    level: usize,
-) -> [bool; 64]
-    requires sized { Sized description relation part (length values.now) }
-    requires in_level { InLevel description relation level }
-    ensures { ChosenBy (row_count description relation) (used_row description values.now relation level) result }
+fn used(values: &[u32], part: Part, level: usize) -> [bool; 64]
+    requires sized { Sized part.description (length values.now) }
+    requires in_level { InLevel part.description part.relation level }
+    ensures { ChosenBy (row_count part.description part.relation) (used_row part.description values.now part.relation level) result }
 {
     let mut chosen = [false; 64];
-    let rows = part.rows;
-    let mut row = 0;
-    while row < rows {
-        chosen[row] = value_at(values, description, relation, part, level, row, 1) != 0;
-        row += 1;
+    for row in 0..part.rows {
+        chosen[row] = part.value_at(values, level, row, 1) != 0;
     }
     chosen
-}
-
-// The rows still chosen after condition `i`.
-fn next(
-    values: &[u32],
-    classes: &[u8],
-    conditions: &[u32],
-    description: Description,
-    order: [[bool; 16]; 16],
-    relation: usize,
-    part: Part,
-    level: usize,
-    chosen: [bool; 64],
-    i: usize,
-) -> [bool; 64]
-    requires lent { Lent description relation part (length values.now) (length classes.now) × InLevel description relation level }
-    requires asking { Asking description order relation conditions.now × (i < condition_count conditions.now) }
-    ensures { NarrowedAt description relation level (condition_at conditions.now i) values.now classes.now chosen result }
-{
-    let asked = read(conditions, i);
-    let line = line(description, order, asked.constant);
-    narrow(
-        values,
-        classes,
-        description,
-        relation,
-        part,
-        level,
-        chosen,
-        line,
-        asked,
-    )
 }
 
 // The rows of a level that are in use and meet every condition.
@@ -273,34 +207,21 @@ pub fn chosen(
     values: &[u32],
     classes: &[u8],
     conditions: &[u32],
-    description: Description,
-    order: [[bool; 16]; 16],
-    relation: usize,
     part: Part,
+    order: [[bool; 16]; 16],
     level: usize,
 ) -> [bool; 64]
-    requires lent { Lent description relation part (length values.now) (length classes.now) × InLevel description relation level }
-    requires asking { Asking description order relation conditions.now }
-    ensures { ChosenAt description relation level conditions.now values.now classes.now result }
+    requires lent { Lent part.description (length values.now) (length classes.now) }
+    requires in_level { InLevel part.description part.relation level }
+    requires asking { Asking part.description order part.relation conditions.now }
+    ensures { ChosenAt part.description part.relation level conditions.now values.now classes.now result }
 {
-    let mut chosen = used(values, description, relation, part, level);
-    let count = conditions.len() / 4;
-    let mut i = 0;
-    while i < count {
-        let fewer = next(
-            values,
-            classes,
-            conditions,
-            description,
-            order,
-            relation,
-            part,
-            level,
-            chosen,
-            i,
-        );
-        chosen = fewer;
-        i += 1;
+    let mut chosen = used(values, part, level);
+    for i in 0..conditions.len() / 4 {
+        let asked = read(conditions, i);
+        let line = line(part.description, order, asked.constant);
+        let filter = Filter { part, asked, line };
+        filter.narrow(values, classes, level, &mut chosen);
     }
     chosen
 }
@@ -311,12 +232,10 @@ pub fn count(chosen: [bool; 64], rows: usize) -> u32
     ensures { Counted rows chosen result }
 {
     let mut count = 0;
-    let mut row = 0;
-    while row < rows {
+    for row in 0..rows {
         if chosen[row] {
             count += 1;
         }
-        row += 1;
     }
     count
 }

@@ -16,45 +16,48 @@ use Rattle.bounded.proofs.Cases.{cases}
 use Rattle.bounded.proofs.Reflection.{of-true}
 use Rattle.model.specs.declared.Description.{Description}
 use Rattle.std.specs.Prelude.{Ok, Err}
+use Rattle.model.specs.declared.Fault.TheVariants as Faults
 use Rattle.model.specs.Description.{between, over, row_count, column_count, foreign_of, refers_of}
 use Rattle.model.specs.Tables.{Cell, State, rows_of, nocell, norow, seek, at}
 use Rattle.model.specs.Buffers.{holding, state_of}
 use Rattle.model.specs.Conditions.{met}
-use Rattle.model.specs.Effect.{Rows, Effect, Above, Change, keep, only}
+use Rattle.model.specs.Effect.{Rows, Effect, Above, keep, only}
+use Rattle.model.specs.Effect as Effects
 use Rattle.model.specs.Delete.{referred, delete_tests, deleted}
 use Rattle.model.specs.Run.{first_fault, left}
 use Rattle.model.proofs.Sound.{between-r}
-use Rattle.cells.specs.declared.layout.Part.{Part}
 use Rattle.cells.specs.Changed.{value_at, key_place, change_level}
 use Rattle.cells.proofs.Cells.{state-cell}
 use Rattle.cells.proofs.Sought.{place-key}
-use Rattle.conditions.specs.Facts.{ChosenAt, Counted}
+use Rattle.conditions.specs.Facts.{ChosenAt}
 use Rattle.above.specs.declared.plan.Plan.{Plan}
-use Rattle.above.specs.Facts.{chosen_at, change_of, above_of, carried, with_rows, Working, Planned}
+use Rattle.above.specs.declared.plan.Change.{Change}
+use Rattle.above.specs.declared.plan.Change.TheVariants as Changes
+use Rattle.above.specs.Facts.{chosen_at, planned, effect_of, change_of, above_of, carried, with_rows, Working, Planned}
 use Rattle.theory.proofs.Seen.{seen-own}
-use Rattle.change.specs.Facts.{Standing, Deletes, does, sight}
+use Rattle.change.specs.Facts.{Standing, Deletes, refuses, does, sight, met_rows}
 use Rattle.chosen.specs.Choosing.{Chosen, row_chosen, empty_chosen, names_chosen, row_refers, refers_chosen, referred_chosen}
 use Rattle.cells.proofs.Counts.{sound-says, relation-is}
-use Rattle.chosen.proofs.Carrying.{left-chosen, sought-met, own-seen, counted, own-met, above-met}
+use Rattle.change.proofs.Answers.{first-fails, first_passes, first-none}
+use Rattle.change.proofs.Known.{own-over}
+use Rattle.chosen.proofs.Carrying.{left-chosen, sought-met, own-seen, own-met, above-met}
 
 -- ---- the plan
 
 -- every cell of the subject's class becomes null
 pub record Nulling (P : Plan) : Type 0 where
   pub gone : P.gone ≡ true
-  pub kinds : P.kinds ≡ replicate 9 2
-  pub values : P.values ≡ replicate 9 0
-  pub classes : P.classes ≡ replicate 9 255
-
-at-nine : (xs : List ℕ) (x k : ℕ) → xs ≡ replicate 9 x → k < 9 → get_or xs k 0 ≡ x
-at-nine xs x k e h = ap (λ (ys : List ℕ). get_or ys k 0) e ∙ get_or-replicate 9 k x 0 h
+  pub changes : P.changes ≡ replicate 9 (Changes.Only 0 255)
 
 module _ (P : Plan) (N : Nulling P) where
-  change-is : (k : ℕ) → k < 9 → change_of P k ≡ only nocell
-  unfolding change_of
-  change-is k h = rw (at-nine P.kinds 2 k N.kinds h, at-nine P.values 0 k N.values h, at-nine P.classes 255 k N.classes h)
+  null-planned : (k : ℕ) → k < 9 → planned P k ≡ Changes.Only 0 255
+  null-planned k h = ap (λ (xs : List Change). get_or xs k Changes.Keep) N.changes ∙ get_or-replicate 9 k (Changes.Only 0 255) Changes.Keep h
 
-  module _ (d : Description) (order : List (List Bool)) (r c : ℕ) (S : State) (W : Working d order r c S) where
+  change-is : (k : ℕ) → k < 9 → change_of P k ≡ only nocell
+  unfolding change_of effect_of
+  change-is k h = ap effect_of (null-planned k h)
+
+  module _ (d : Description) (r c : ℕ) (S : State) (W : Working d r c S) where
     abbrev B : Rows
     B = (S c).rows
 
@@ -96,20 +99,18 @@ module _ (P : Plan) (N : Nulling P) where
       delete-planned =
           record {
             chosen = M.long;
-            values = ap length N.values;
-            classes = ap length N.classes;
+            changes = ap length N.changes;
             real = M.real;
-            own = λ k q. absurd (not_taken k q);
-            key = λ q. not_taken 1 q;
+            own = λ k v o q. absurd (not_taken k v o q);
+            key = λ v o q. not_taken 1 v o q;
           }
         where
-          not_taken : (k : ℕ) → get_or P.kinds k 0 ≡ 1 → ⊥
-          not_taken k q =
+          not_taken : (k v o : ℕ) → planned P k ≡ Changes.Take v o → ⊥
+          not_taken k v o q =
               cases (ltb k 9)
-              (λ t. let y : ◌≡◌ {A = ℕ} 2 1 = sym (at-nine P.kinds 2 k N.kinds (ltb-true k 9 t)) ∙ q in omega (arith, y))
+              (λ t. let e = null-planned k (ltb-true k 9 t) in cc)
               (λ t. let g = ltb-false k 9 t in
-              let z : get_or P.kinds k 0 ≡ 0 = get_or-eq_default P.kinds 0 {n = k} (omega (arith, ap length N.kinds)) in
-              let y : ◌≡◌ {A = ℕ} 0 1 = sym z ∙ q in omega (arith, y))
+              let e : planned P k ≡ Changes.Keep = get_or-eq_default P.changes Changes.Keep {n = k} (omega (arith, ap length N.changes)) in cc)
 
 -- ---- its test
 
@@ -143,7 +144,7 @@ module _ (d : Description) (vs cs : List ℕ) (c r : ℕ) (o : over d c c ≡ tr
 
 -- ---- the effect, by what meets the conditions, and what is answered
 
-module _ {d : Description} {order : List (List Bool)} {r c : ℕ} {p : Part} {vs cs : List ℕ} (K : Standing d order r c p vs cs) (conditions : List ℕ)
+module _ {d : Description} {r c : ℕ} {vs cs : List ℕ} (K : Standing d r c vs cs) (conditions : List ℕ)
     {chosen : List Bool} (M : ChosenAt d r c conditions vs cs chosen) where
   abbrev T : State
   T = state_of d (holding vs cs)
@@ -159,11 +160,21 @@ module _ {d : Description} {order : List (List Bool)} {r c : ℕ} {p : Part} {vs
   effect_is =
       ap₂ (λ (N : Rows) (A : Above). record { own = N; above = A })
       (fun_ext (λ s. fun_ext (λ i. ap (λ (b : Bool). if b then norow else (T c).rows s i) (own-met K conditions M s i))))
-      (ap₂ (λ (g : ℕ → ℕ → Bool) (f : ℕ → ℕ → ℕ → Change). record { gone = g; change = f })
+      (ap₂ (λ (g : ℕ → ℕ → Bool) (f : ℕ → ℕ → ℕ → Effects.Change). record { gone = g; change = f })
       (fun_ext (λ s. fun_ext (λ v. gone-met s v _)))
       (fun_ext (λ s. fun_ext (λ v. fun_ext (λ k. ap (λ (b : Bool). if b then only nocell else keep) (above-met K conditions M s v))))))
       ∙ ap (deleted d c r conditions) (sym (own-seen K))
 
-  pub delete-done : first_fault (delete_tests d c r conditions (sight d c vs cs)) ≡ none → {count : ℕ} → Counted p.rows chosen count → {us ds : List ℕ}
+  pub delete-done : first_fault (delete_tests d c r conditions (sight d c vs cs)) ≡ none → {count : ℕ} → count ≡ met_rows d c r conditions (sight d c vs cs) → {us ds : List ℕ}
       → state_of d (holding us ds) ≡ left d c (some (empty_chosen d c r chosen (T c).rows)) T → Deletes d c r conditions vs cs us ds (Ok count)
-  delete-done n C m = does n (ap Ok (counted K conditions M C)) (m ∙ ap (λ (E : Effect). left d c (some E) T) effect_is)
+  delete-done n C m = does n (ap Ok C) (m ∙ ap (λ (E : Effect). left d c (some E) T) effect_is)
+
+  -- it is refused where a chosen row is referred to
+  module _ {b : Bool} (z : b ≡ referred_chosen d vs chosen r c) where
+    pub delete-refused : b ≡ true → Deletes d c r conditions vs cs vs cs (Err Faults.Referred)
+    unfolding delete_tests
+    delete-refused t = refuses _ (first-fails _ _ (referred-test d vs cs c r (own-over K) conditions M z ∙ ap not t)) refl refl refl
+
+    pub delete-passes : b ≡ false → first_fault (delete_tests d c r conditions (sight d c vs cs)) ≡ none
+    unfolding delete_tests
+    delete-passes t = first_passes _ _ (referred-test d vs cs c r (own-over K) conditions M z ∙ ap not t) ∙ first-none

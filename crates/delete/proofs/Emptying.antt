@@ -8,13 +8,16 @@ use mathlib.Core.List.{List}
 use native.Mathlib.Omega.{arith}
 use lib.ListN.{get_or}
 use borrow.Author.Tests.{eq-eqb, ne_eqb, lt-ltb, le-ltb}
+use Rattle.std.specs.Prelude.{Some, None}
 use Rattle.bounded.specs.Bounded.{any_below}
+use Rattle.bounded.proofs.Found.{some-below, none-below}
 use Rattle.bounded.proofs.Any.{any-start, any-more, any_here, any-end, any-of-none}
 use Rattle.model.specs.declared.Description.{Description}
 use Rattle.model.specs.Description.{between, is_relation, of_relation, row_count, foreign_of, refers_of}
 use Rattle.model.specs.Buffers.{inside}
 use Rattle.model.proofs.Sound.{Reference}
 use Rattle.model.proofs.Border.{inside-shown}
+use Rattle.cells.specs.Layout.{Row}
 use Rattle.cells.specs.Changed.{value_at, key_place}
 use Rattle.change.specs.Facts.{Naming}
 use Rattle.chosen.specs.Choosing.{names_chosen, row_refers, refers_chosen, referred_chosen}
@@ -28,14 +31,14 @@ module _ (d : Description) (vs : List ℕ) (chosen : List Bool) (r c : ℕ) wher
     unfolding names_chosen
     names-null e = rw (eq-eqb v 0 e)
 
-    module _ (n : v ≢ 0) {i m : ℕ} (e : i ≡ key_place d vs r c v) (q : m ≡ row_count d r) where
-      pub names-nowhere : m ≤ i → false ≡ names_chosen d vs chosen r c v
+    module _ (n : v ≢ 0) where
+      pub names-nowhere : Row d r (key_place d vs r c v) None → false ≡ names_chosen d vs chosen r c v
       unfolding names_chosen
-      names-nowhere h = rw (ne_eqb v 0 n, ← e, ← q, le-ltb i m h)
+      names-nowhere e = rw (ne_eqb v 0 n, le-ltb _ _ (none-below _ _ e))
 
-      pub names-there : i < m → get_or chosen i false ≡ names_chosen d vs chosen r c v
+      pub names-there : {i : ℕ} → Row d r (key_place d vs r c v) (Some i) → get_or chosen i false ≡ names_chosen d vs chosen r c v
       unfolding names_chosen
-      names-there h = rw (ne_eqb v 0 n, ← e, ← q, lt-ltb i m h)
+      names-there e = let f = some-below _ _ e in rw (ne_eqb v 0 n, lt-ltb _ _ f.1, ← f.0)
 
   -- ---- a row of a relation
 

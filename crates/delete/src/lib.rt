@@ -83,13 +83,14 @@ fn write(values: &mut [u32], classes: &mut [u8], table: Table, chosen: [bool; 64
     requires only_used { OnlyUsed table.part.description table.part.relation level values.old classes.old chosen }
     ensures { Leaves table.part.description level (empty_chosen table.part.description level table.part.relation chosen) values.old classes.old values.new classes.new }
 {
+    let null = Change::Only {
+        value: 0,
+        class: 255,
+    };
     let plan = Plan {
         chosen,
         gone: true,
-        changes: [Change::Only {
-            value: 0,
-            class: 255,
-        }; 9],
+        changes: [null; 9],
     };
     above(values, classes, table, plan, level);
     rows(values, classes, table.part, chosen, level);

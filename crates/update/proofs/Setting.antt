@@ -3,7 +3,7 @@
 use Rattle.std.specs.Prelude.{if◌then◌else◌}
 use Prim.Native.Nat.{ℕ, ◌+◌, ◌%◌, ◌≤◌, ◌<◌}
 use mathlib.Core.Path.{◌≡◌, refl, sym, ap, ◌∙◌, fun_ext}
-use mathlib.Core.Bool.{Bool, true, false}
+use mathlib.Core.Bool.{Bool, true, false, not, ◌&&◌}
 use mathlib.Core.Logic.{◌≢◌}
 use mathlib.Core.List.{List}
 use mathlib.Core.Option.{none, some}
@@ -14,7 +14,8 @@ use lib.Dec.{eqb, ltb}
 use lib.ListN.{length, get_or, set, replicate, length-set, get_or-replicate, get_or-eq_default}
 use lib.Seq.{get_or-set_same, get_or-set_other}
 use borrow.Author.Tests.{eq-eqb, ne_eqb, lt-ltb, le-ltb, ltb-true, ltb-false, eqb-true, eqb-false}
-use Rattle.bounded.specs.Bounded.{first_below}
+use Rattle.std.specs.Prelude.{is_none}
+use Rattle.bounded.specs.Bounded.{first_below, some_below}
 use Rattle.bounded.proofs.Any.{any-first}
 use Rattle.bounded.proofs.Cases.{cases}
 use Rattle.bounded.proofs.First.{first-le, first_more, first-here, First, found, absent, first-cases}
@@ -29,9 +30,10 @@ use Rattle.cells.specs.Changed.{with_cell, with_row, change_level}
 use Rattle.cells.proofs.Written.{row_same}
 use Rattle.cells.proofs.Changes.{level-path, change-same, change-on}
 use Rattle.asked.specs.declared.pairs.Rule.TheVariants as Rules
-use Rattle.asked.specs.Facts.{Found, rule_of}
-use Rattle.change.specs.Facts.{value_listed}
-use Rattle.chosen.specs.Choosing.{Listing, ByColumn, kind_listed}
+use Rattle.asked.specs.Facts.{rule_of}
+use Rattle.above.specs.declared.plan.Change.{Change}
+use Rattle.above.specs.declared.plan.Change.TheVariants as Changes
+use Rattle.chosen.specs.Choosing.{Listing, ByColumn, change_listed}
 
 -- ---- a column among the first pairs
 
@@ -78,31 +80,27 @@ module _ (list : List ℕ) (k : ℕ) where
 
 -- ---- by column
 
-none-there : (k : ℕ) → ◌≡◌ {A = ℕ} (get_or (replicate 9 0) k 0) 0
+none-there : (k : ℕ) → get_or (replicate 9 Changes.Keep) k Changes.Keep ≡ Changes.Keep
 none-there k =
     cases (ltb k 9)
-    (λ t. get_or-replicate 9 k 0 0 (ltb-true k 9 t))
-    (λ t. get_or-eq_default (replicate 9 0) 0 {n = k} (ltb-false k 9 t))
+    (λ t. get_or-replicate 9 k Changes.Keep Changes.Keep (ltb-true k 9 t))
+    (λ t. get_or-eq_default (replicate 9 Changes.Keep) Changes.Keep {n = k} (ltb-false k 9 t))
 
-pub columns-none : (list : List ℕ) (f : ℕ → ℕ) → ByColumn (among 0 list f 0) (replicate 9 0)
-columns-none list f = record { long = refl; right = λ k. none-there k ∙ sym (among_none list k f 0) }
+pub columns-none : (list : List ℕ) (f : ℕ → Change) → ByColumn (among 0 list f Changes.Keep) (replicate 9 Changes.Keep)
+columns-none list f = record { long = refl; right = λ k. none-there k ∙ sym (among_none list k f Changes.Keep) }
 
-pub columns-more : (list : List ℕ) (f : ℕ → ℕ) (n : ℕ) (numbers : List ℕ) → Listing 8 list → n < pairs list → ByColumn (among n list f 0) numbers
-    → ByColumn (among (n + 1) list f 0) (set numbers (column_at list n) (f (second_at list n)))
-columns-more list f n numbers L h N =
+pub columns-more : (list : List ℕ) (f : ℕ → Change) (n : ℕ) (changes : List Change) → Listing 8 list → n < pairs list → ByColumn (among n list f Changes.Keep) changes
+    → ByColumn (among (n + 1) list f Changes.Keep) (set changes (column_at list n) (f (second_at list n)))
+columns-more list f n changes L h N =
     record {
-      long = length-set numbers (column_at list n) (f (second_at list n)) ∙ N.long;
+      long = length-set changes (column_at list n) (f (second_at list n)) ∙ N.long;
       right = λ k. cases (eqb (column_at list n) k)
           (λ t. let e = eqb-true (column_at list n) k t in
-          rw (← e) (get_or-set_same numbers (column_at list n) (f (second_at list n)) 0 (omega (arith, N.long, L.most n h)) ∙ sym (among-here list (column_at list n) f 0 L n h refl)))
+          rw (← e) (get_or-set_same changes (column_at list n) (f (second_at list n)) Changes.Keep (omega (arith, N.long, L.most n h))
+          ∙ sym (among-here list (column_at list n) f Changes.Keep L n h refl)))
           (λ t. let o = eqb-false _ _ t in
-          get_or-set_other numbers (column_at list n) k (f (second_at list n)) 0 (λ e. o (sym e)) ∙ N.right k ∙ sym (among-other list k f 0 n o));
+          get_or-set_other changes (column_at list n) k (f (second_at list n)) Changes.Keep (λ e. o (sym e)) ∙ N.right k ∙ sym (among-other list k f Changes.Keep n o));
     }
-
-pub kinds-end : (list : List ℕ) (n : ℕ) (numbers : List ℕ) → n ≡ pairs list → ByColumn (among n list (λ v. 1) 0) numbers → ByColumn (kind_listed list) numbers
-unfolding among kind_listed lists
-kinds-end list n numbers e N =
-    record { long = N.long; right = λ k. N.right k ∙ rw (e, any-first (pairs list) (λ j. eqb (column_at list j) k)) }
 
 -- what is listed for a column, from the first pair that has it
 module _ (list : List ℕ) (k : ℕ) where
@@ -117,47 +115,27 @@ module _ (list : List ℕ) (k : ℕ) where
   unfolding listed
   listed-nowhere t = rw t
 
-pub news-end : (list : List ℕ) (n : ℕ) (numbers : List ℕ) → n ≡ pairs list → ByColumn (among n list (λ v. v) 0) numbers → ByColumn (value_listed list) numbers
-unfolding among value_listed
-news-end list n numbers e N =
+pub changes-end : (c : ℕ) (list : List ℕ) (n : ℕ) (changes : List Change) → n ≡ pairs list → ByColumn (among n list (λ v. Changes.Take v c) Changes.Keep) changes
+    → ByColumn (change_listed c list) changes
+unfolding among change_listed
+changes-end c list n changes e N =
     record {
       long = N.long;
-      right = λ k. N.right k ∙ rw e (cases (ltb (first list k) (pairs list)) (λ t. rw (t, value_listed, listed-there list k t)) (λ t. rw (t, value_listed, listed-nowhere list k t)));
+      right = λ k. N.right k ∙ rw e (cases (ltb (first list k) (pairs list)) (λ t. rw (t, change_listed, listed-there list k t)) (λ t. rw (t, change_listed, listed-nowhere list k t)));
     }
 
 -- ---- what is well formed, test after test
 
-module _ (d : Description) (r : ℕ) (list : List ℕ) where
-  pub formed-cut : (length list % 2 ≡ 0 → ⊥) → false ≡ update_formed d r list
-  unfolding update_formed whole
-  formed-cut n = rw (ne_eqb _ 0 n)
+pub unlisted : (list : List ℕ) (k : ℕ) → is_none (some_below (pairs list) (first_below (pairs list) (λ j. eqb (column_at list j) k))) ≡ not (lists list k)
+unfolding lists some_below
+unlisted list k =
+    rw (any-first (pairs list) (λ j. eqb (column_at list j) k))
+    (cases (ltb (first list k) (pairs list)) (λ t. rw t) (λ t. rw t))
 
-  module _ (w : length list % 2 ≡ 0) {a : Bool} (x : a ≡ each (rule_of d r Rules.Column) list) where
-    exist : each (λ k v. is_column d r k) list ≡ a
-    unfolding each rule_of
-    exist = sym x
-
-    pub formed-column : a ≡ false → false ≡ update_formed d r list
-    unfolding update_formed whole
-    formed-column f = rw (eq-eqb _ 0 w, exist ∙ f)
-
-    module _ (t : a ≡ true) {b : Bool} (y : b ≡ columns_once list) where
-      pub formed-twice : b ≡ false → false ≡ update_formed d r list
-      unfolding update_formed whole
-      formed-twice f = rw (eq-eqb _ 0 w, exist ∙ t, sym y ∙ f)
-
-      module _ (u : b ≡ true) {i : ℕ} (z : Found list 1 i) where
-        key-is : lists list 1 ≡ ltb i (pairs list)
-        unfolding lists
-        key-is = any-first (pairs list) (λ j. eqb (column_at list j) 1) ∙ ap (λ (n : ℕ). ltb n (pairs list)) (sym z.is)
-
-        pub formed-key : i < pairs list → false ≡ update_formed d r list
-        unfolding update_formed whole
-        formed-key h = rw (eq-eqb _ 0 w, exist ∙ t, sym y ∙ u, key-is, lt-ltb _ _ h)
-
-        pub formed-so : pairs list ≤ i → ltb 0 (length list) ≡ update_formed d r list
-        unfolding update_formed whole
-        formed-so h = rw (eq-eqb _ 0 w, exist ∙ t, sym y ∙ u, key-is, le-ltb _ _ h)
+pub formed-tests : (d : Description) (r : ℕ) (list : List ℕ)
+    → update_formed d r list ≡ (eqb (length list % 2) 0 && (each (rule_of d r Rules.Column) list && (columns_once list && (not (lists list 1) && ltb 0 (length list)))))
+unfolding update_formed whole rule_of
+formed-tests d r list = refl
 
 -- ---- a row, cell after cell
 

@@ -6,7 +6,7 @@ use mathlib.Core.Path.{◌≡◌, refl, sym, ap, ap₂, ◌∙◌, fun_ext}
 use mathlib.Core.Bool.{Bool, true, false, not, ◌||◌}
 use mathlib.Core.List.{List}
 use mathlib.Core.Logic.{◌≢◌}
-use mathlib.Core.Option.{none, some}
+use mathlib.Core.Option.{Option, none, some}
 use native.Mathlib.Omega.{arith}
 use lib.Dec.{eqb, ltb}
 use lib.ListN.{length, get_or, replicate, get_or-replicate, get_or-eq_default}
@@ -24,53 +24,43 @@ use Rattle.model.specs.Tables.{Row, State, rows_of}
 use Rattle.model.specs.Buffers.{holding, state_of}
 use Rattle.model.specs.Listed.{whole, pairs, column_at, second_at, each, listed, lists, columns_once}
 use Rattle.model.specs.Conditions.{met}
-use Rattle.model.specs.Effect.{Rows, Effect, Above, Change, keep}
+use Rattle.model.specs.Effect.{Rows, Effect, Above, keep}
+use Rattle.model.specs.Effect as Effects
 use Rattle.model.specs.Insert.{listed_names}
 use Rattle.model.specs.Update.{update_formed, any_met, update_tests, set_in, take_in, updated}
 use Rattle.model.specs.Run.{first_fault, left}
 use Rattle.model.proofs.Sound.{between-r, column-r}
-use Rattle.cells.specs.declared.layout.Part.{Part}
 use Rattle.cells.specs.Changed.{change_level}
-use Rattle.conditions.specs.Facts.{ChosenAt, Counted}
+use Rattle.conditions.specs.Facts.{ChosenAt}
 use Rattle.above.specs.declared.plan.Plan.{Plan}
-use Rattle.above.specs.Facts.{change_of, above_of, carried, with_rows, Planned}
-use Rattle.change.specs.Facts.{Standing, Updates, does, sight, met_rows, value_listed}
-use Rattle.chosen.specs.Choosing.{Listing, ByColumn, Chosen, kind_listed, row_chosen, set_chosen}
+use Rattle.above.specs.declared.plan.Change.TheVariants as Changes
+use Rattle.above.specs.Facts.{planned, effect_of, change_of, above_of, carried, with_rows, Planned}
+use Rattle.change.specs.Facts.{Standing, Updates, does, sight, met_rows}
+use Rattle.chosen.specs.Choosing.{Listing, ByColumn, Chosen, change_listed, row_chosen, set_chosen}
 use Rattle.change.proofs.Answers.{listed-seen}
-use Rattle.chosen.proofs.Carrying.{left-chosen, any-counted, own-seen, counted, own-met, above-met}
+use Rattle.chosen.proofs.Carrying.{left-chosen, any-counted, own-seen, own-met, above-met}
 use Rattle.update.proofs.Setting.{listed-there, listed-nowhere}
 
 -- ---- what is listed for a column
 
-module _ (list : List ℕ) (k : ℕ) where
-  data Entry : Type 0 where
-    taken : (v : ℕ) → kind_listed list k ≡ 1 → value_listed list k ≡ v → listed list k ≡ some v → Entry
-    kept : kind_listed list k ≡ 0 → listed list k ≡ none → Entry
+abbrev first : List ℕ → ℕ → ℕ
+first list k = first_below (pairs list) (λ j. eqb (column_at list j) k)
 
-  abbrev first : ℕ
-  first = first_below (pairs list) (λ j. eqb (column_at list j) k)
-
-  kind-is : kind_listed list k ≡ (if ltb first (pairs list) then 1 else 0)
-  unfolding kind_listed lists
-  kind-is = rw (any-first (pairs list) (λ j. eqb (column_at list j) k))
-
-  entry : Entry
-  unfolding value_listed
-  entry =
-      cases (ltb first (pairs list))
-      (λ t. taken (second_at list first) (rw (kind-is, t)) (rw (value_listed, listed-there list k t)) (listed-there list k t))
-      (λ t. kept (rw (kind-is, t)) (listed-nowhere list k t))
+-- no column is listed that isn't there
+unlisted-none : (list : List ℕ) (k : ℕ) → lists list k ≡ false → listed list k ≡ none
+unfolding lists
+unlisted-none list k e = listed-nowhere list k (sym (any-first (pairs list) (λ j. eqb (column_at list j) k)) ∙ e)
 
 -- ---- the plan
 
-module _ (c : ℕ) (list : List ℕ) (P : Plan) (kinds : ByColumn (kind_listed list) P.kinds) (values : ByColumn (value_listed list) P.values) where
+module _ (c : ℕ) (list : List ℕ) (P : Plan) (changes : ByColumn (change_listed c list) P.changes) where
   change-is : (k : ℕ) → change_of P k ≡ take_in list k
-  unfolding change_of take_in
-  change-is k = go (entry list k)
+  unfolding change_of change_listed take_in effect_of
+  change-is k = ap effect_of (changes.right k) ∙ go (listed list k) refl
     where
-      go : Entry list k → change_of P k ≡ take_in list k
-      go (taken v e f g) = rw (kinds.right k, e, values.right k, f, take_in, g)
-      go (kept e g) = rw (kinds.right k, e, take_in, g)
+      go : (o : Option ℕ) → listed list k ≡ o → effect_of (change_listed c list k) ≡ take_in list k
+      go none e = rw (change_listed, take_in, e)
+      go (some v) e = rw (change_listed, take_in, e)
 
   module _ (d : Description) (r : ℕ) (S : State) (nothing-gone : P.gone ≡ false) where
     abbrev B : Rows
@@ -107,25 +97,21 @@ module _ (c : ℕ) (list : List ℕ) (P : Plan) (kinds : ByColumn (kind_listed l
       update-left = left-chosen d c r m P S (set_in c list) E gone-is (λ s l i k h. changed-is s ((S l).rows s i 1).value k) (λ s i k. refl) M past
 
 -- the plan is one
-pub update-planned : (d : Description) (r c : ℕ) (list : List ℕ) (P : Plan) (B : ℕ → Row) → ByColumn (kind_listed list) P.kinds
-    → ByColumn (value_listed list) P.values → P.classes ≡ replicate 9 c → Chosen (row_count d r) B P.chosen → lists list 1 ≡ false → Planned d r c P B
-unfolding kind_listed
-update-planned d r c list P B kinds values e M n =
+pub update-planned : (d : Description) (r c : ℕ) (list : List ℕ) (P : Plan) (B : ℕ → Row) → ByColumn (change_listed c list) P.changes
+    → Chosen (row_count d r) B P.chosen → lists list 1 ≡ false → Planned d r c P B
+unfolding change_listed
+update-planned d r c list P B changes M n =
     record {
       chosen = M.long;
-      values = values.long;
-      classes = ap length e;
+      changes = changes.long;
       real = M.real;
-      own = λ k q. ap (λ (xs : List ℕ). get_or xs k 0) e ∙ get_or-replicate 9 k c 0 (small k q);
-      key = λ q. let z : ◌≡◌ {A = ℕ} 0 1 = sym (kinds.right 1 ∙ rw n) ∙ q in omega (arith, z);
+      own = λ k v o q. own (listed list k) k v o refl (sym (changes.right k) ∙ q);
+      key = λ v o q. let e = unlisted-none list 1 n in let z : Changes.Keep ≡ Changes.Take v o = sym (changes.right 1 ∙ rw (change_listed, e)) ∙ q in cc;
     }
   where
-    small : (k : ℕ) → get_or P.kinds k 0 ≡ 1 → k < 9
-    small k q =
-        cases (ltb k 9) (λ t. ltb-true k 9 t)
-        (λ t. let g = ltb-false k 9 t in
-        let z : get_or P.kinds k 0 ≡ 0 = get_or-eq_default P.kinds 0 {n = k} (omega (arith, kinds.long)) in
-        let y : ◌≡◌ {A = ℕ} 0 1 = sym z ∙ q in absurd (omega (arith, y)))
+    own : (x : Option ℕ) (k v o : ℕ) → listed list k ≡ x → change_listed c list k ≡ Changes.Take v o → o ≡ c
+    own none k v o e q = let z : Changes.Keep ≡ Changes.Take v o = sym (rw (change_listed, e)) ∙ q in cc
+    own (some w) k v o e q = let z : Changes.Take w c ≡ Changes.Take v o = sym (rw (change_listed, e)) ∙ q in cc
 
 -- ---- what is well formed
 
@@ -175,7 +161,7 @@ module _ (d : Description) (vs cs : List ℕ) (c r : ℕ) (o : over d c c ≡ tr
 
 -- ---- the effect, by what meets the conditions, and what is answered
 
-module _ {d : Description} {order : List (List Bool)} {r c : ℕ} {p : Part} {vs cs : List ℕ} (K : Standing d order r c p vs cs) (list conditions : List ℕ)
+module _ {d : Description} {r c : ℕ} {vs cs : List ℕ} (K : Standing d r c vs cs) (list conditions : List ℕ)
     {chosen : List Bool} (M : ChosenAt d r c conditions vs cs chosen) where
   abbrev T : State
   T = state_of d (holding vs cs)
@@ -185,10 +171,10 @@ module _ {d : Description} {order : List (List Bool)} {r c : ℕ} {p : Part} {vs
   effect_is =
       ap₂ (λ (N : Rows) (A : Above). record { own = N; above = A })
       (fun_ext (λ s. fun_ext (λ i. ap (λ (b : Bool). if b then set_in c list ((T c).rows s i) else (T c).rows s i) (own-met K conditions M s i))))
-      (ap (λ (f : ℕ → ℕ → ℕ → Change). record { gone = λ s v. false; change = f })
+      (ap (λ (f : ℕ → ℕ → ℕ → Effects.Change). record { gone = λ s v. false; change = f })
       (fun_ext (λ s. fun_ext (λ v. fun_ext (λ k. ap (λ (b : Bool). if b then take_in list k else keep) (above-met K conditions M s v))))))
       ∙ ap (updated d c r list conditions) (sym (own-seen K))
 
-  pub update-done : first_fault (update_tests d c r list conditions (sight d c vs cs)) ≡ none → {count : ℕ} → Counted p.rows chosen count → {us ds : List ℕ}
+  pub update-done : first_fault (update_tests d c r list conditions (sight d c vs cs)) ≡ none → {count : ℕ} → count ≡ met_rows d c r conditions (sight d c vs cs) → {us ds : List ℕ}
       → state_of d (holding us ds) ≡ left d c (some (set_chosen d c r list chosen (T c).rows)) T → Updates d c r list conditions vs cs us ds (Ok count)
-  update-done n C m = does n (ap Ok (counted K conditions M C)) (m ∙ ap (λ (E : Effect). left d c (some E) T) effect_is)
+  update-done n C m = does n (ap Ok C) (m ∙ ap (λ (E : Effect). left d c (some E) T) effect_is)

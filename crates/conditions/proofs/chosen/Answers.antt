@@ -1,31 +1,33 @@
 use native.Mathlib.Omega.{arith}
 use Rattle.model.specs.Conditions.{condition_count}
 use Rattle.conditions.proofs.Choosing.{met_start, met-more, met-end}
+use Rattle.conditions.proofs.Meeting.{tested_at}
 use Rattle.conditions.proofs.chosen.Goals as goal
 
 -- The invariant: a row is chosen where it is in use and meets the conditions that were passed.
 
 pub used-chosen-requires : goal.used-chosen-requires
-used-chosen-requires c = record { sized = record { laid = c.requires.lent.0.laid; size = c.requires.lent.0.values }; in_level = c.requires.lent.1 }
+used-chosen-requires c = record { sized = c.requires.lent.values; in_level = c.requires.in_level }
 
 pub loop-i-init : goal.loop-i-init
-loop-i-init c = (omega arith, met_start _ _ _ _ _ _ _ _ c.used-chosen.ensures)
+loop-i-init c = met_start _ _ _ _ _ _ _ _ c.used-chosen.ensures
 
-pub next-fewer-requires : goal.next-fewer-requires
+pub read-asked-requires : goal.read-asked-requires
 unfolding condition_count
-next-fewer-requires c = record { lent = c.requires.lent; asking = (c.requires.asking, c.loop-i-test.true) }
+read-asked-requires c = c.loop-i-test.true
 
-pub overflow_add-i : goal.overflow_add-i
-overflow_add-i c = omega arith
+pub line-line-requires : goal.line-line-requires
+line-line-requires c = c.requires.asking.ordered
 
-pub loop-i-smaller : goal.loop-i-smaller
-loop-i-smaller c = omega arith
+pub invariant_of-filter : goal.invariant_of-filter
+unfolding condition_count
+invariant_of-filter c = record { tested = tested_at _ _ _ _ c.requires.asking.formed c.loop-i-test.true _ c.read-asked.ensures _ c.line-line.ensures }
 
 pub loop-i-preserved : goal.loop-i-preserved
 loop-i-preserved c = let l = c.loop-i in
-    (omega arith, met-more _ _ _ _ l.i _ _ l.invariant.1 c.next-fewer.ensures)
+    met-more _ _ _ _ l.i _ _ l.invariant (rw c.read-asked.ensures at c.narrow.ensures)
 
 pub returns : goal.returns
 unfolding condition_count
 returns c = let l = c.loop-i in
-    met-end _ _ _ _ l.i _ (omega arith) l.invariant.1
+    met-end _ _ _ _ l.i _ (omega (arith, l.auto.i-end, c.loop-i-test.false)) l.invariant

@@ -7,28 +7,16 @@ use Rattle.conditions.proofs.count.Goals.{then-chosen-row, else-chosen-row}
 -- The invariant: what is counted is how many of the rows that were passed are chosen.
 
 pub loop-row-init : goal.loop-row-init
-loop-row-init c = (omega arith, omega arith, count-start _)
-
-pub bounds-chosen-row : goal.bounds-chosen-row
-bounds-chosen-row c = omega arith
-
-pub overflow_add-count : goal.overflow_add-count
-overflow_add-count c = omega arith
-
-pub overflow_add-row : goal.overflow_add-row
-overflow_add-row c = omega arith
-
-pub loop-row-smaller : goal.loop-row-smaller
-loop-row-smaller c = omega arith
+loop-row-init c = (omega arith, count-start _)
 
 pub loop-row-preserved : goal.loop-row-preserved
 loop-row-preserved c =
     let l = c.loop-row in
     elim c.if-chosen-row.branch [
-      | then-chosen-row w ↦ (omega arith, omega (arith, w.count-is), w.count-is ∙ count-more l.row _ l.invariant.2 refl w.if-chosen-row.true)
-      | else-chosen-row w ↦ (omega arith, omega (arith, w.count-is), w.count-is ∙ count_same l.row _ l.invariant.2 refl w.if-chosen-row.false)
+      | then-chosen-row w ↦ (omega (arith, w.count-is), w.count-is ∙ count-more l.row _ l.invariant.1 refl w.if-chosen-row.true)
+      | else-chosen-row w ↦ (omega (arith, w.count-is), w.count-is ∙ count_same l.row _ l.invariant.1 refl w.if-chosen-row.false)
     ]
 
 pub returns : goal.returns
 returns c = let l = c.loop-row in
-    record { is = count-end c.args.rows l.row _ l.invariant.2 l.invariant.0 c.loop-row-test.false; few = omega arith }
+    record { is = count-end c.args.rows l.row _ l.invariant.1 l.auto.row-end c.loop-row-test.false; few = omega arith }

@@ -1,4 +1,4 @@
-use Prim.Native.Nat.{◌≤◌, ◌-◌}
+use Prim.Native.Nat.{◌≤◌}
 use mathlib.Core.Bool.{false}
 use mathlib.Core.Path.{◌≡◌}
 use lib.ListN.{get_or}
@@ -7,8 +7,4 @@ use Rattle.conditions.proofs.count.Given as goal
 
 abbrev pub invariant-loop-row : goal.invariant-loop-row
 invariant-loop-row l =
-    (l.row ≤ l.rows) × (l.count ≤ l.row) × (l.count ≡ count_below l.row (λ i. get_or l.chosen i false))
-
-abbrev pub decreases-loop-row : goal.decreases-loop-row
-decreases-loop-row l =
-    l.rows - l.row
+    (l.count ≤ l.row) × (l.count ≡ count_below l.row (λ i. get_or l.chosen i false))

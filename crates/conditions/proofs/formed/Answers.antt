@@ -1,5 +1,4 @@
 use mathlib.Core.Path.{sym}
-use native.Mathlib.Omega.{arith}
 use Rattle.bounded.proofs.All.{all_start, all_more}
 use Rattle.model.specs.Conditions.{condition_count}
 use Rattle.conditions.proofs.Meeting.{cut-fails, many-fails, one-fails, all-formed}
@@ -14,7 +13,7 @@ pub returns-then-count-gt4 : goal.returns-then-count-gt4
 returns-then-count-gt4 c = sym (many-fails _ _ _ c.if-count-gt4.true)
 
 pub loop-i-init : goal.loop-i-init
-loop-i-init c = (omega arith, all_start _)
+loop-i-init c = all_start _
 
 pub read-asked-requires : goal.read-asked-requires
 unfolding condition_count
@@ -27,16 +26,9 @@ pub returns-then-not-condition : goal.returns-then-not-condition
 returns-then-not-condition c = let l = c.loop-i in
     sym (one-fails _ _ _ l.i (rw c.read-asked.ensures at c.condition.ensures) c.if-not-condition.true c.loop-i-test.true)
 
-pub overflow_add-i : goal.overflow_add-i
-overflow_add-i c = omega arith
-
-pub loop-i-smaller : goal.loop-i-smaller
-loop-i-smaller c = omega arith
-
 pub loop-i-preserved : goal.loop-i-preserved
-loop-i-preserved c = let l = c.loop-i in
-    (omega arith, all_more l.i _ l.invariant.1 (rw c.read-asked.ensures at c.condition.ensures) c.if-not-condition.false)
+loop-i-preserved c = all_more _ _ c.loop-i.invariant (rw c.read-asked.ensures at c.condition.ensures) c.if-not-condition.false
 
 pub returns : goal.returns
 returns c = let l = c.loop-i in
-    sym (all-formed _ _ _ l.i c.if-conditions-ne0.false c.if-count-gt4.false l.invariant.1 l.invariant.0 c.loop-i-test.false)
+    sym (all-formed _ _ _ l.i c.if-conditions-ne0.false c.if-count-gt4.false l.invariant l.auto.i-end c.loop-i-test.false)

@@ -1,4 +1,3 @@
-use Prim.Native.Nat.{◌≤◌, ◌-◌}
 use mathlib.Core.Bool.{true}
 use mathlib.Core.Path.{◌≡◌}
 use Rattle.bounded.specs.Bounded.{all_below}
@@ -7,8 +6,4 @@ use Rattle.conditions.proofs.formed.Given as goal
 
 abbrev pub invariant-loop-i : goal.invariant-loop-i
 invariant-loop-i l =
-    (l.i ≤ l.count) × (all_below l.i (formed_at l.description l.relation l.conditions) ≡ true)
-
-abbrev pub decreases-loop-i : goal.decreases-loop-i
-decreases-loop-i l =
-    l.count - l.i
+    all_below l.i (formed_at l.description l.relation l.conditions) ≡ true

@@ -6,24 +6,19 @@ use Rattle.conditions.proofs.used.Goals as goal
 -- The invariant: the rows that were passed are chosen where they are in use.
 
 pub loop-row-init : goal.loop-row-init
-loop-row-init c = (omega arith, chosen_none _)
+loop-row-init c = chosen_none _
 
 pub value_at-requires : goal.value_at-requires
-value_at-requires c = record { sized = c.requires.sized; cell_inside = row_inside _ _ _ _ _ (record { level = c.requires.in_level; row = omega (arith, c.requires.sized.laid.rows, c.loop-row-test.true) }) (omega arith) c.requires.in_level.keyed }
+value_at-requires c = record { sized = c.requires.sized; cell_inside = row_inside _ _ _ _ _ (record { level = c.requires.in_level; row = omega (arith, c.args.part.laid.rows, c.loop-row-test.true) }) (omega arith) c.requires.in_level.keyed }
 
 pub bounds-chosen-row : goal.bounds-chosen-row
-bounds-chosen-row c = omega (arith, c.requires.sized.laid.few, c.loop-row-test.true)
-
-pub overflow_add-row : goal.overflow_add-row
-overflow_add-row c = omega (arith, c.requires.sized.laid.few)
-
-pub loop-row-smaller : goal.loop-row-smaller
-loop-row-smaller c = omega arith
+bounds-chosen-row c = omega (arith, c.args.part.laid.few, c.loop-row-test.true)
 
 pub loop-row-preserved : goal.loop-row-preserved
 loop-row-preserved c = let l = c.loop-row in
-    (omega arith, chosen_more l.row _ _ _ (omega (arith, c.requires.sized.laid.few, c.loop-row-test.true)) (used-as _ _ _ _ _ c.value_at.ensures) l.invariant.1)
+    chosen_more l.row _ _ _ (omega (arith, c.args.part.laid.few, c.loop-row-test.true)) (used-as _ _ _ _ _ c.value_at.ensures) l.invariant
 
 pub returns : goal.returns
 returns c = let l = c.loop-row in
-    chosen-end _ l.row _ _ l.invariant.1 (omega (arith, c.requires.sized.laid.rows, l.invariant.0)) (omega (arith, c.requires.sized.laid.rows, c.loop-row-test.false))
+    let e = c.args.part.laid.rows in
+    chosen-end _ l.row _ _ l.invariant (omega (arith, e, l.auto.row-end)) (omega (arith, e, c.loop-row-test.false))

@@ -1,15 +1,16 @@
-use Rattle.delete.proofs.Emptying.{names-null, names-nowhere, names-there}
 use native.Mathlib.Omega.{arith}
+use Rattle.bounded.proofs.Found.{some-below}
+use Rattle.delete.proofs.Emptying.{names-null, names-nowhere, names-there}
 use Rattle.delete.proofs.names.Goals as goal
 
 pub returns-then-key-eq0 : goal.returns-then-key-eq0
 returns-then-key-eq0 c = names-null _ _ _ _ _ _ c.if-key-eq0.true
 
-pub returns-then-part-row : goal.returns-then-part-row
-returns-then-part-row c = names-nowhere _ _ _ _ _ _ c.if-key-eq0.false c.find-row.ensures.is c.requires.sized.laid.rows c.if-part-row.true
-
 pub bounds-chosen-row : goal.bounds-chosen-row
-bounds-chosen-row c = omega (arith, c.requires.sized.laid.few, c.if-part-row.false)
+bounds-chosen-row c = let f = some-below _ _ c.in-Some.ensures in omega (arith, f, c.args.part.laid.few, c.args.part.laid.rows)
 
-pub returns : goal.returns
-returns c = names-there _ _ _ _ _ _ c.if-key-eq0.false c.find-row.ensures.is c.requires.sized.laid.rows c.if-part-row.false
+pub returns-in-Some : goal.returns-in-Some
+returns-in-Some c = names-there _ _ _ _ _ _ c.if-key-eq0.false c.in-Some.ensures
+
+pub returns-in-None : goal.returns-in-None
+returns-in-None c = names-nowhere _ _ _ _ _ _ c.if-key-eq0.false c.in-None.ensures

@@ -5,45 +5,33 @@ use Rattle.model.specs.Tables.{norow}
 use Rattle.above.proofs.Turns.{rows_start, rows_end}
 use Rattle.chosen.proofs.Choosing.{more-chosen, more-unchosen}
 use Rattle.delete.proofs.rows.Goals as goal
-use Rattle.delete.proofs.rows.Goals.{then-chosen-i, else-chosen-i}
+use Rattle.delete.proofs.rows.Goals.{then-chosen-row, else-chosen-row}
 
 -- The invariant: the rows that were passed are emptied where they are chosen, and nothing else has changed.
 
-pub loop-i-init : goal.loop-i-init
-loop-i-init c = (omega arith, refl, refl, rows_start _ _ _ _ _)
+pub loop-row-init : goal.loop-row-init
+loop-row-init c = (refl, refl, rows_start _ _ _ _ _)
 
 pub clear-requires : goal.clear-requires
-clear-requires c = let l = c.loop-i in
-    record { lent = record { laid = c.requires.lent.laid; values = l.invariant.1 ∙ c.requires.lent.values; classes = l.invariant.2 ∙ c.requires.lent.classes }; in_row = record { level = c.requires.in_level; row = omega (arith, c.requires.lent.laid.rows, c.loop-i-test.true) } }
+clear-requires c = let l = c.loop-row in record {
+  lent = record { values = l.invariant.0 ∙ c.requires.lent.values; classes = l.invariant.1 ∙ c.requires.lent.classes };
+  in_row = record { level = c.requires.in_level; row = omega (arith, c.args.part.laid.rows, c.loop-row-test.true) };
+}
 
-pub overflow_add-i : goal.overflow_add-i
-overflow_add-i c = omega (arith, c.requires.lent.laid.few)
-
-pub loop-i-smaller : goal.loop-i-smaller
-loop-i-smaller c = omega arith
-
-pub loop-i-preserved : goal.loop-i-preserved
-loop-i-preserved c = let l = c.loop-i in
-    elim c.if-chosen-i.branch [
-      | then-chosen-i w ↦ (
-        omega arith,
-        ap length w.values-is ∙ w.clear.auto.values ∙ l.invariant.1,
-        ap length w.classes-is ∙ w.clear.auto.classes ∙ l.invariant.2,
-        more-chosen _ _ _ _ _ (λ R. norow) l.i _ _ _ _ l.invariant.3 w.values-is w.classes-is w.if-chosen-i.true w.clear.ensures,
+pub loop-row-preserved : goal.loop-row-preserved
+loop-row-preserved c = let l = c.loop-row in
+    elim c.if-chosen-row.branch [
+      | then-chosen-row w ↦ (
+        ap length w.values-is ∙ w.clear.auto.values ∙ l.invariant.0,
+        ap length w.classes-is ∙ w.clear.auto.classes ∙ l.invariant.1,
+        more-chosen _ _ _ _ _ (λ R. norow) l.row _ _ _ _ l.invariant.2 w.values-is w.classes-is w.if-chosen-row.true w.clear.ensures,
       )
-      | else-chosen-i w ↦ (
-        omega arith,
-        ap length w.values-is ∙ l.invariant.1,
-        ap length w.classes-is ∙ l.invariant.2,
-        more-unchosen _ _ _ _ _ (λ R. norow) l.i _ _ _ _ l.invariant.3 w.values-is w.classes-is w.if-chosen-i.false,
+      | else-chosen-row w ↦ (
+        ap length w.values-is ∙ l.invariant.0,
+        ap length w.classes-is ∙ l.invariant.1,
+        more-unchosen _ _ _ _ _ (λ R. norow) l.row _ _ _ _ l.invariant.2 w.values-is w.classes-is w.if-chosen-row.false,
       )
     ]
 
-pub shape_of-values : goal.shape_of-values
-shape_of-values c = c.loop-i.invariant.1
-
-pub shape_of-classes : goal.shape_of-classes
-shape_of-classes c = c.loop-i.invariant.2
-
 pub returns : goal.returns
-returns c = rows_end _ _ _ _ _ _ _ c.loop-i.invariant.3 (omega (arith, c.requires.lent.laid.rows, c.loop-i.invariant.0, c.loop-i-test.false))
+returns c = rows_end _ _ _ _ _ _ _ c.loop-row.invariant.2 (omega (arith, c.args.part.laid.rows, c.loop-row.auto, c.loop-row-test.false))

@@ -5,11 +5,12 @@ use Rattle.delete.proofs.Deleted.{delete-left, delete-planned}
 use Rattle.delete.proofs.write.Goals as goal
 
 pub above-requires : goal.above-requires
-above-requires c = record { carrying = (lent c.requires.standing, working c.requires.standing); planned_in = delete-planned _ (record { gone = refl; kinds = refl; values = refl; classes = refl }) _ _ _ _ _ (working c.requires.standing) c.requires.only_used }
+above-requires c = let k = c.requires.standing in
+    record { carrying = (lent k, working k); planned_in = delete-planned _ (record { gone = refl; changes = refl }) _ _ _ _ (working k) c.requires.only_used }
 
 pub rows-requires : goal.rows-requires
 rows-requires c = let k = c.requires.standing in
-    record { lent = record { laid = k.laid; values = c.above.auto.values ∙ k.long; classes = c.above.auto.classes ∙ k.wide }; in_level = own-level k }
+    record { lent = record { values = c.above.auto.values ∙ k.long; classes = c.above.auto.classes ∙ k.wide }; in_level = own-level k }
 
 pub returns : goal.returns
-returns c = delete-left _ (record { gone = refl; kinds = refl; values = refl; classes = refl }) _ _ _ _ _ (working c.requires.standing) c.requires.only_used c.above.ensures c.rows.ensures
+returns c = delete-left _ (record { gone = refl; changes = refl }) _ _ _ _ (working c.requires.standing) c.requires.only_used c.above.ensures c.rows.ensures

@@ -1,36 +1,10 @@
-use Rattle.model.specs.Listed.{pairs}
-use Rattle.update.proofs.Setting.{formed-cut, formed-column, formed-twice, formed-key, formed-so}
+use Rattle.std.proofs.Common.{arith}
+use Rattle.std.proofs.lemmas.Grind.{common_steps}
+use Rattle.update.proofs.Setting.{unlisted, formed-tests}
 use Rattle.update.proofs.formed.Goals as goal
 
-pub returns-then-list-ne0 : goal.returns-then-list-ne0
-returns-then-list-ne0 c = formed-cut _ _ _ c.if-list-ne0.true
+pub returns-then-is_none : goal.returns-then-is_none
+returns-then-is_none c = let k = c.args.columns in grind (arith, common_steps, formed-tests k.levels.description k.relation c.args.list.now, unlisted c.args.list.now 1)
 
-pub returns-then-not-each : goal.returns-then-not-each
-returns-then-not-each c = formed-column _ _ _ c.if-list-ne0.false c.each.ensures c.if-not-each.true
-
-pub returns-then-not-once : goal.returns-then-not-once
-returns-then-not-once c = formed-twice _ _ _ c.if-list-ne0.false c.each.ensures c.if-not-each.false c.once.ensures c.if-not-once.true
-
-pub returns-then-find-list : goal.returns-then-find-list
-unfolding pairs
-returns-then-find-list c = formed-key
-    _ _ _
-    c.if-list-ne0.false
-    c.each.ensures
-    c.if-not-each.false
-    c.once.ensures
-    c.if-not-once.false
-    c.find.ensures
-    c.if-find-list.true
-
-pub returns : goal.returns
-unfolding pairs
-returns c = formed-so
-    _ _ _
-    c.if-list-ne0.false
-    c.each.ensures
-    c.if-not-each.false
-    c.once.ensures
-    c.if-not-once.false
-    c.find.ensures
-    c.if-find-list.false
+pub returns-else-is_none : goal.returns-else-is_none
+returns-else-is_none c = let k = c.args.columns in grind (arith, common_steps, formed-tests k.levels.description k.relation c.args.list.now, unlisted c.args.list.now 1)

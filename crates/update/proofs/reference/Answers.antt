@@ -4,5 +4,5 @@ use Rattle.update.proofs.reference.Goals as goal
 pub returns-then-count-eq0 : goal.returns-then-count-eq0
 returns-then-count-eq0 c = λ cs. rw (eq-eqb _ 0 c.if-count-eq0.true)
 
-pub returns : goal.returns
-returns c = λ cs. rw (ne_eqb _ 0 c.if-count-eq0.false) (c.listed.ensures cs)
+pub returns-else-count-eq0 : goal.returns-else-count-eq0
+returns-else-count-eq0 c = λ cs. rw (ne_eqb _ 0 c.if-count-eq0.false) (c.listed.ensures cs)

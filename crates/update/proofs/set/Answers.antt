@@ -1,4 +1,3 @@
-use Prim.Native.Nat.{◌*◌}
 use mathlib.Core.Path.{refl, ◌∙◌}
 use native.Mathlib.Omega.{arith}
 use Rattle.model.specs.Listed.{pairs as pairs_of, column_at, second_at}
@@ -9,19 +8,13 @@ use Rattle.update.proofs.set.Goals as goal
 -- The invariant: the pairs that were passed are set in the row, and nothing else has changed.
 
 pub loop-i-init : goal.loop-i-init
-loop-i-init c = (omega arith, refl, refl, set-start _ _ _ _ _ _)
-
-pub overflow_cast-column : goal.overflow_cast-column
-overflow_cast-column c = omega (arith, c.shared_slice_known-in-loop-i-1.given (2 * c.loop-i.i))
-
-pub overflow_cast-level : goal.overflow_cast-level
-overflow_cast-level c = omega (arith, c.requires.listing.1)
+loop-i-init c = (refl, refl, set-start _ _ _ _ _ _)
 
 pub put-requires : goal.put-requires
 unfolding pairs_of column_at
 put-requires c = let l = c.loop-i in
     record {
-      lent = record { laid = c.requires.lent.0.laid; values = l.invariant.1 ∙ c.requires.lent.0.values; classes = l.invariant.2 ∙ c.requires.lent.0.classes };
+      lent = record { values = l.invariant.0 ∙ c.requires.lent.0.values; classes = l.invariant.1 ∙ c.requires.lent.0.classes };
       cell_inside = inside-shown _ _ _ _ _ (record {
         relation = c.requires.lent.1.level.relation;
         level = c.requires.lent.1.level.level;
@@ -31,25 +24,14 @@ put-requires c = let l = c.loop-i in
       });
     }
 
-pub loop-i-smaller : goal.loop-i-smaller
-loop-i-smaller c = omega arith
-
 pub loop-i-preserved : goal.loop-i-preserved
 unfolding pairs_of column_at second_at
-loop-i-preserved c = let k = c.put in
-    let l = c.loop-i in (
-      omega (arith, c.loop-i-test.true),
-      c.put.auto.values ∙ l.invariant.1,
-      c.put.auto.classes ∙ l.invariant.2,
-      set_more _ _ _ _ _ _ _ l.i c.requires.listing.0 c.loop-i-test.true l.invariant.3 k.ensures,
-    )
-
-pub shape_of-values : goal.shape_of-values
-shape_of-values c = c.loop-i.invariant.1
-
-pub shape_of-classes : goal.shape_of-classes
-shape_of-classes c = c.loop-i.invariant.2
+loop-i-preserved c = let l = c.loop-i in (
+  c.put.auto.values ∙ l.invariant.0,
+  c.put.auto.classes ∙ l.invariant.1,
+  set_more _ _ _ _ _ _ _ l.i c.requires.listing.0 c.loop-i-test.true l.invariant.2 c.put.ensures,
+)
 
 pub returns : goal.returns
 unfolding pairs_of
-returns c = set-end _ _ _ _ _ _ _ c.loop-i.i (omega (arith, c.loop-i.invariant.0, c.loop-i-test.false)) c.loop-i.invariant.3
+returns c = set-end _ _ _ _ _ _ _ c.loop-i.i (omega (arith, c.loop-i.auto, c.loop-i-test.false)) c.loop-i.invariant.2

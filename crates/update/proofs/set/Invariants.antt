@@ -1,4 +1,3 @@
-use Prim.Native.Nat.{◌-◌, ◌≤◌}
 use mathlib.Core.Path.{◌≡◌}
 use lib.ListN.{length}
 use Rattle.chosen.specs.Choosing.{RowDone}
@@ -7,11 +6,6 @@ use Rattle.update.proofs.set.Given as goal
 
 abbrev pub invariant-loop-i : goal.invariant-loop-i
 invariant-loop-i l =
-    (l.i ≤ l.pairs)
-    × (length l.values ≡ length l.initial.values)
+    (length l.values ≡ length l.initial.values)
     × (length l.classes ≡ length l.initial.classes)
-    × RowDone l.description l.relation l.level l.row (set_below l.i l.level l.list) l.initial.values l.initial.classes l.values l.classes
-
-abbrev pub decreases-loop-i : goal.decreases-loop-i
-decreases-loop-i l =
-    l.pairs - l.i
+    × RowDone l.part.description l.part.relation l.level l.row (set_below l.i l.level l.list) l.initial.values l.initial.classes l.values l.classes

@@ -1,21 +1,30 @@
+use Rattle.std.proofs.lemmas.Result.{err_from_is_err_and}
 use Rattle.change.proofs.Ended.{failed-answer, passed-by}
-use Rattle.change.proofs.Known.{ordered, own-level, lent}
+use Rattle.change.proofs.Known.{own-level, lent}
 use Rattle.chosen.proofs.Carrying.{met-chosen, counted}
 use Rattle.update.proofs.Updated.{update-keyless, update-listing, update-done}
 use Rattle.update.proofs.update.Goals as goal
 
 pub chosen-chosen-requires : goal.chosen-chosen-requires
 chosen-chosen-requires c = let k = c.requires.standing in
-    record { lent = (lent k, own-level k); asking = record { ordered = ordered k; formed = c.requires.formed_list.1 } }
+    record { lent = lent k; in_level = own-level k; asking = record { ordered = c.args.table.ordered; formed = c.requires.formed_list.1 } }
 
-pub check-test-requires : goal.check-test-requires
-check-test-requires c = record { standing = (c.requires.standing, c.requires.formed_list.0); counted = counted c.requires.standing _ c.chosen-chosen.ensures c.count-count.ensures }
+pub check-requires : goal.check-requires
+check-requires c = let k = c.requires.standing in
+    record { standing = k; formed_list = c.requires.formed_list.0; counted = counted k _ c.chosen-chosen.ensures c.args.table.part.laid.rows c.count-count.ensures }
 
-pub returns-in-Failed : goal.returns-in-Failed
-returns-in-Failed c = failed-answer c.check-test.ensures c.in-Failed.is
+pub returns-in_err-check : goal.returns-in_err-check
+returns-in_err-check c = let p = err_from_is_err_and c.from_residual.result c.from_residual.ensures.1 in
+    rw (p.1, p.2) (failed-answer c.check.ensures c.in_err-check.was)
 
 pub write-requires : goal.write-requires
-write-requires c = record { standing = (c.requires.standing, met-chosen _ _ _ _ _ c.chosen-chosen.ensures); listing = (update-listing _ _ _ c.requires.formed_list.0, update-keyless _ _ _ c.requires.formed_list.0) }
+write-requires c = let f = c.requires.formed_list.0 in record {
+  standing = c.requires.standing;
+  only_used = met-chosen _ _ _ _ _ c.chosen-chosen.ensures;
+  listing = (update-listing _ _ _ f, update-keyless _ _ _ f);
+}
 
 pub returns : goal.returns
-returns c = update-done c.requires.standing _ _ c.chosen-chosen.ensures (passed-by c.check-test.ensures c.in_default.is) c.count-count.ensures c.write.ensures
+returns c = let k = c.requires.standing in
+    let m = c.chosen-chosen.ensures in
+    update-done k _ _ m (passed-by c.check.ensures c.in_ok-check.was) (counted k _ m c.args.table.part.laid.rows c.count-count.ensures) c.write.ensures

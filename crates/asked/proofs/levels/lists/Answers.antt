@@ -1,19 +1,15 @@
-use mathlib.Core.Path.{refl, sym}
-use borrow.Author.Tests.{eq-eqb, ne_eqb}
-use Rattle.bounded.proofs.Any.{any-start, any-more, any_here, any-end}
+use mathlib.Core.Path.{◌∙◌}
+use lib.Dec.{eqb}
+use borrow.Author.Rules.{rules}
+use borrow.Author.Tests.{tests}
+use Rattle.std.proofs.lemmas.Iterator.{YieldsList-from_slice}
+use Rattle.std.proofs.lemmas.Iterator.Search.{any_from_yields_List}
 use Rattle.model.specs.Listed.{among}
+use Rattle.asked.proofs.Lists.{any-listed}
 use Rattle.asked.proofs.levels.lists.Goals as goal
-
-pub loop-listed-init : goal.loop-listed-init
-loop-listed-init c = any-start _
-
-pub returns-then-listed-level : goal.returns-then-listed-level
-unfolding among
-returns-then-listed-level c = sym (any_here _ _ _ refl (eq-eqb _ _ c.if-listed-level.true) c.loop-listed-test.true)
-
-pub loop-listed-preserved : goal.loop-listed-preserved
-loop-listed-preserved c = any-more _ _ c.loop-listed.invariant refl (ne_eqb _ _ c.if-listed-level.false)
 
 pub returns : goal.returns
 unfolding among
-returns c = let l = c.loop-listed in sym (any-end _ l.listed-index _ l.invariant l.auto.listed-index-end c.loop-listed-test.false)
+returns c =
+    any_from_yields_List (λ x. eqb x c.args.level) _ _ _ c.any.ensures.ran (YieldsList-from_slice c.args.list.now cc) (λ x b q k. search (rules, tests))
+    ∙ any-listed _ 0 _

@@ -1,25 +1,16 @@
-use mathlib.Core.Path.{sym}
+use mathlib.Core.Path.{◌≡◌, ap, ◌∙◌}
+use Prim.Native.Nat.{ℕ, ◌/◌}
 use native.Mathlib.Omega.{arith}
-use Rattle.bounded.proofs.All.{all_start, all_more, all-fails, all_end}
+use lib.ListN.{length, get_or}
 use Rattle.model.specs.Description.{distinct_below}
 use Rattle.model.specs.Listed.{levels_once}
-use borrow.Author.Rules.{rules}
+use Rattle.asked.proofs.Lists.{once-entries}
 use Rattle.asked.proofs.levels.once.Goals as goal
 
-pub loop-i-init : goal.loop-i-init
-loop-i-init c = (search rules, all_start _)
-
-pub apart-requires : goal.apart-requires
-apart-requires c = omega arith
-
-pub returns-then-not-apart : goal.returns-then-not-apart
-unfolding levels_once distinct_below
-returns-then-not-apart c = sym (all-fails _ _ _ c.apart.ensures c.if-not-apart.true c.loop-i-test.true)
-
-pub loop-i-preserved : goal.loop-i-preserved
-loop-i-preserved c = let l = c.loop-i in
-    (omega arith, all_more l.i _ l.invariant.1 c.apart.ensures c.if-not-apart.false)
-
 pub returns : goal.returns
-unfolding levels_once distinct_below
-returns c = let l = c.loop-i in sym (all_end _ l.i _ l.invariant.1 l.invariant.0 c.loop-i-test.false)
+unfolding levels_once
+returns c = let list = c.args.list.now in
+    let f : ℕ → ℕ = λ i. get_or list i 0 in
+    let e : length list / 1 ≡ length list = omega arith in
+    c.once.ensures
+    ∙ rw c.as_chunks.ensures.front (once-entries 1 _ list f (omega arith) (λ i. ap f (omega arith)) ∙ ap (λ (n : ℕ). distinct_below n f) e)

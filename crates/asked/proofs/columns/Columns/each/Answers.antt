@@ -1,19 +1,14 @@
-use mathlib.Core.Path.{sym}
-use Rattle.bounded.proofs.All.{all_start, all_more, all-fails, all_end}
-use Rattle.model.specs.Listed.{pairs as pairs_of, column_at, second_at, each as each_of}
+use mathlib.Core.Path.{◌∙◌}
+use lib.ListN.{get_or}
+use borrow.Author.Rules.{rules}
+use borrow.Author.Tests.{tests}
+use Rattle.std.proofs.lemmas.Iterator.{YieldsList-from_slice}
+use Rattle.std.proofs.lemmas.Iterator.Search.{all_from_yields_List}
+use Rattle.asked.specs.Facts.{rule_of}
+use Rattle.asked.proofs.Listing.{each-pair}
 use Rattle.asked.proofs.columns.Columns.each.Goals as goal
 
-pub loop-i-init : goal.loop-i-init
-loop-i-init c = all_start _
-
-pub returns-then-not-holds : goal.returns-then-not-holds
-unfolding each_of pairs_of column_at second_at
-returns-then-not-holds c = sym (all-fails _ _ _ c.holds.ensures c.if-not-holds.true c.loop-i-test.true)
-
-pub loop-i-preserved : goal.loop-i-preserved
-unfolding column_at second_at
-loop-i-preserved c = all_more _ _ c.loop-i.invariant c.holds.ensures c.if-not-holds.false
-
 pub returns : goal.returns
-unfolding each_of pairs_of
-returns c = let l = c.loop-i in sym (all_end _ l.i _ l.invariant l.auto.i-end c.loop-i-test.false)
+returns c =
+    all_from_yields_List (λ x. rule_of c.args.self.levels.description c.args.self.relation c.args.rule (get_or x 0 0) (get_or x 1 0)) _ _ _ c.all.ensures.ran (YieldsList-from_slice c.as_chunks.result.0.now cc) (λ x b q k. search (rules, tests))
+    ∙ rw c.as_chunks.ensures.front (each-pair _ _)

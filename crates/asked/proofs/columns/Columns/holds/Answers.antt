@@ -1,15 +1,18 @@
+use Rattle.model.specs.Description.{is_level}
 use Rattle.asked.specs.Facts.{rule_of}
-use Rattle.asked.proofs.Listing.{rule-column, rule-none, rule-from}
 use Rattle.asked.proofs.columns.Columns.holds.Goals as goal
 
 pub returns-in-Column : goal.returns-in-Column
-returns-in-Column c = rule-column _ _ _ _ _ c.args.self.related c.exists.ensures c.in-Column.is
+unfolding rule_of
+returns-in-Column c = rw c.in-Column.is c.exists.ensures
 
 pub returns-then-exists : goal.returns-then-exists
-returns-then-exists c = rule-from _ _ _ _ _ c.args.self.related c.exists-in-From.ensures c.in-From.is c.if-exists.true
+unfolding rule_of is_level
+returns-then-exists c = rw (c.in-From.is, ← c.exists-in-From.ensures, c.if-exists.true)
 
 pub returns-else-exists : goal.returns-else-exists
-returns-else-exists c = rule-none _ _ _ _ _ c.args.self.related c.exists-in-From.ensures c.in-From.is c.if-exists.false
+unfolding rule_of
+returns-else-exists c = rw (c.in-From.is, ← c.exists-in-From.ensures, c.if-exists.false)
 
 pub returns-in-Takes : goal.returns-in-Takes
 unfolding rule_of

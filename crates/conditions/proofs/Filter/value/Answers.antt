@@ -1,5 +1,5 @@
 use Rattle.conditions.proofs.Meeting.{null-meets, some-meets}
-use Rattle.conditions.proofs.value.Goals as goal
+use Rattle.conditions.proofs.Filter.value.Goals as goal
 
 pub returns-then-x-eq0 : goal.returns-then-x-eq0
 returns-then-x-eq0 c = null-meets _ _ _ _ c.if-x-eq0.true
