@@ -1,7 +1,7 @@
 -- What an UPLEVEL borrows: whether a reference names its row, and what a new cell is, way by way.
 -- Assumes nothing.
-use Rattle.std.specs.Prelude.{if◌then◌else◌}
-use Prim.Native.Nat.{ℕ, ◌+◌, ◌*◌, ◌/◌, ◌≤◌, ◌<◌}
+use Rattle.std.specs.Prelude.{Some, None, if◌then◌else◌}
+use Prim.Native.Nat.{ℕ, ◌+◌, ◌*◌}
 use mathlib.Core.Path.{◌≡◌, refl, sym, ap, ◌∙◌}
 use mathlib.Core.Bool.{Bool, true, false, not, ◌&&◌}
 use mathlib.Core.Logic.{◌≢◌}
@@ -9,7 +9,7 @@ use mathlib.Core.List.{List}
 use mathlib.Core.Option.{Option, none, some}
 use native.Mathlib.Nat.{lt_irrefl}
 use lib.Dec.{eqb}
-use lib.ListN.{length, get_or}
+use lib.ListN.{get_or}
 use borrow.Author.Tests.{eq-eqb, ne_eqb}
 use Rattle.bounded.proofs.Reflection.{of-true, and_r, bool-r}
 use Rattle.model.specs.declared.Description.{Description}
@@ -31,8 +31,8 @@ use Rattle.change.proofs.Pairs.{listed-none, listed-some}
 pub listed-column : (d : Description) (r : ℕ) (list : List ℕ) (k a : ℕ) → each (λ k l. is_column d r k && is_level d l) list ≡ true → listed list k ≡ some a → is_column d r k ≡ true
 listed-column d r list k a h e = (of-true (and_r (bool-r (is_column d r k)) (bool-r (is_level d a))) (each-listed (λ k l. is_column d r k && is_level d l) list k a h e)).0
 
-pub from-seen : (d : Description) (c : ℕ) (list : List ℕ) (k : ℕ) {i : ℕ} → each (λ k a. over d c a) list ≡ true → Found list k i → i < length list / 2 → over d c (get_or list (2 * i + 1) 0) ≡ true
-from-seen d c list k h F l = each-listed (λ k a. over d c a) list k _ h (listed-some list k F l)
+pub from-seen : (d : Description) (c : ℕ) (list : List ℕ) (k : ℕ) {i : ℕ} → each (λ k a. over d c a) list ≡ true → Found list k (Some i) → over d c (get_or list (2 * i + 1) 0) ≡ true
+from-seen d c list k h F = each-listed (λ k a. over d c a) list k _ h (listed-some list k F)
 
 module _ (d : Description) (c r : ℕ) (e : Cell) (list : List ℕ) (S : State) where
   abbrev T : Tables
@@ -54,11 +54,11 @@ module _ (d : Description) (c r : ℕ) (e : Cell) (list : List ℕ) (S : State) 
       go none q = names-by (sym z ∙ f) q
       go (some a) q = absurd (lt_irrefl 0 (of-true (column-r d r 0) (listed-column d r list 0 a h q)).0)
 
-  module _ {k i : ℕ} (f : k ≡ foreign_of d r) (F : Found list k i) where
-    pub borrows-unlisted : length list / 2 ≤ i → true ≡ borrowed_names d c r e list T
-    borrows-unlisted h = names-by f (listed-none list k F h)
+  module _ {k : ℕ} (f : k ≡ foreign_of d r) where
+    pub borrows-unlisted : Found list k None → true ≡ borrowed_names d c r e list T
+    borrows-unlisted F = names-by f (listed-none list k F)
 
-    module _ (h : i < length list / 2) (o : over d c c ≡ true) (s : over d c (get_or list (2 * i + 1) 0) ≡ true) where
+    module _ {i : ℕ} (F : Found list k (Some i)) (o : over d c c ≡ true) (s : over d c (get_or list (2 * i + 1) 0) ≡ true) where
       seen-names : (v : ℕ) → names_row d c r T v ≡ names_row d c r (rows_of S) v
       unfolding names_row
       seen-names v = rw (seen_at d S c (refers_of d r) c v o)
@@ -66,7 +66,7 @@ module _ (d : Description) (c r : ℕ) (e : Cell) (list : List ℕ) (S : State) 
       pub borrows-listed : {w : ℕ} → w ≡ (lends (at d (rows_of S) r (get_or list (2 * i + 1) 0) e.value) e k (get_or list (2 * i + 1) 0)).value
           → {b : Bool} → b ≡ names_row d c r (rows_of S) w → b ≡ borrowed_names d c r e list T
       borrows-listed {w} p q =
-          q ∙ sym (seen-names w) ∙ ap (names_row d c r T) (rw (← f, seen_at d S c r (get_or list (2 * i + 1) 0) e.value s) p) ∙ names-by f (listed-some list k F h)
+          q ∙ sym (seen-names w) ∙ ap (names_row d c r T) (rw (← f, seen_at d S c r (get_or list (2 * i + 1) 0) e.value s) p) ∙ names-by f (listed-some list k F)
 
 -- ---- a reference that names another entity
 

@@ -1,81 +1,201 @@
 -- UPLEVEL's tests: each is what the code asks, and the first that fails is answered.
 -- Assumes nothing.
+use Rattle.std.specs.Prelude.{Ok, Err, Option, Some, None, is_some, ok_or, take}
 use Prim.Native.Nat.{ℕ, ◌≤◌, ◌<◌}
 use mathlib.Core.Path.{◌≡◌, refl, sym, ap, ◌∙◌}
 use mathlib.Core.Bool.{Bool, true, false, not, ◌&&◌, ◌||◌}
 use mathlib.Core.List.{List, [], ◌∷◌}
 use mathlib.Core.Logic.{◌≢◌}
-use mathlib.Core.Option.{none}
+use mathlib.Core.Option.{none, some}
+use native.Mathlib.Omega.{arith}
 use lib.Dec.{eqb, ltb, leb}
-use borrow.Author.Tests.{eq-eqb, ne_eqb, lt-ltb, le-ltb, ltb-true, ltb-false, le-leb, lt-leb}
-use Rattle.bounded.specs.Bounded.{first_below, count_below}
+use borrow.Author.Tests.{ltb-true, ltb-false, le-leb, lt-leb}
+use Rattle.bounded.specs.Bounded.{first_below, count_below, some_below}
 use Rattle.bounded.proofs.Cases.{cases, and_left, and_right}
+use Rattle.bounded.proofs.First.{first-le}
+use Rattle.bounded.proofs.Found.{some-below, none-below}
+use Rattle.bounded.proofs.Reflection.{is_false, bool-r}
 use Rattle.model.specs.declared.Description.{Description}
 use Rattle.model.specs.declared.Fault.{Fault}
 use Rattle.model.specs.declared.Fault.TheVariants as Faults
-use Rattle.std.specs.Prelude.{Ok, Err}
 use Rattle.model.specs.Answers.{Answer}
-use Rattle.model.specs.Description.{over, in_range, row_count}
-use Rattle.model.specs.Numbers.{fault_number}
-use Rattle.model.specs.Tables.{Cell, State, Tables, cell, same, used, rows_of, seen, at}
+use Rattle.model.specs.Description.{over, in_range, row_count, sound}
+use Rattle.model.specs.Tables.{State, Tables, cell, same, used, rows_of, seen, at}
 use Rattle.model.specs.Buffers.{holding, state_of}
 use Rattle.model.specs.Listed.{each}
 use Rattle.model.specs.Effect.{Rows, Effect, lowest_empty, has_room}
-use Rattle.model.specs.Uplevel.{based, entity_of, borrowed_names, uplevel_tests, uplevelled}
+use Rattle.model.specs.Uplevel.{based, entity_of, uplevel_tests}
 use Rattle.model.specs.Run.{first_fault}
+use Rattle.cells.specs.Layout.{Row}
 use Rattle.cells.specs.Changed.{key_place, entity_place}
 use Rattle.asked.specs.declared.pairs.Rule.TheVariants as Rules
 use Rattle.asked.specs.Facts.{rule_of}
-use Rattle.theory.proofs.Tests.{pass}
 use Rattle.theory.proofs.Seen.{seen_at, seen-own}
 use Rattle.change.specs.Facts.{Answered, refuses, does, sight, Uplevels}
-use Rattle.change.specs.Tests.{test_of}
-use Rattle.uplevel.specs.Raising.{class_seen, levels_seen, later_tests, several_based, entity_tests, spot_of}
+use Rattle.change.specs.Tests.{ended}
+use Rattle.uplevel.specs.declared.meant.Entity.{Entity}
+use Rattle.uplevel.specs.Raising.{given_of, own_of, admitted, class_seen, levels_seen, later_tests, several_based, spot_of}
+use Rattle.uplevel.specs.Raised.{Raises}
 use Rattle.change.proofs.Sought.{used-is}
-use Rattle.change.proofs.Answers.{first-fails, first_passes}
-use Rattle.uplevel.proofs.Entities.{entity-is}
+use Rattle.change.proofs.Answers.{first-fails, first_passes, first-none, first-begun, first-beyond}
+use Rattle.change.proofs.Ended.{failed-by, passed-by}
+use Rattle.uplevel.proofs.Entities.{some-is, level-few, entity-is}
 
 -- ---- the entity
 
-module _ (d : Description) (c r key class : ℕ) (T : Tables) where
-  key-kept : entity_of d c r key class T ≡ cell key (entity_of d c r key class T).class
-  unfolding entity_of
-  key-kept = refl
+-- no level with a number past the last is seen
+unseen-past : (d : Description) (c r key : ℕ) (T : Tables) → sound d ≡ true → based d c r key T d.levels ≡ false
+unfolding based
+unseen-past d c r key T s = rw (is_false (bool-r (over d c d.levels)) (λ o. let h = (level-few d s c d.levels o).0 in omega (arith, h)))
 
-  pub own-given : class ≢ 255 → class ≡ (entity_of d c r key class T).class
-  unfolding entity_of
-  own-given n = rw (ne_eqb class 255 n)
+module _ (d : Description) (c r key : ℕ) (T : Tables) where
+  abbrev bases : ℕ
+  bases = count_below d.levels (based d c r key T)
 
-  module _ (e : class ≡ 255) where
-    pub own-base : {b : ℕ} → b ≡ first_below d.levels (based d c r key T) → b ≡ (entity_of d c r key class T).class
-    unfolding entity_of
-    own-base p = rw (eq-eqb class 255 e) p
+  more : (n : ℕ) → ltb 1 n ≡ not (leb n 1)
+  more n = cases (ltb 1 n) (λ t. rw (t, lt-leb n 1 (ltb-true 1 n t))) (λ t. rw (t, le-leb n 1 (ltb-false 1 n t)))
 
-    more : (n : ℕ) → ltb 1 n ≡ not (leb n 1)
-    more n = cases (ltb 1 n) (λ t. rw (t, lt-leb n 1 (ltb-true 1 n t))) (λ t. rw (t, le-leb n 1 (ltb-false 1 n t)))
+  pub own-given : (o : Option ℕ) → is_some o ≡ true → o ≡ own_of d c r key o T
+  unfolding own_of
+  own-given None t = cc
+  own-given (Some class) t = refl
 
-    pub several-count : {n : ℕ} → n ≡ count_below d.levels (based d c r key T) → ltb 1 n ≡ several_based d c r key class T
-    unfolding several_based
-    several-count {n} p = rw (eq-eqb class 255 e, ← p) (more n)
+  pub own-base : (o : Option ℕ) → is_some o ≡ false → {b : Option ℕ} → b ≡ some_below d.levels (first_below d.levels (based d c r key T)) → b ≡ own_of d c r key o T
+  unfolding own_of
+  own-base None t p = p
+  own-base (Some class) t p = cc
 
-  pub several-given : class ≢ 255 → false ≡ several_based d c r key class T
+  pub several-count : (o : Option ℕ) → is_some o ≡ false → {n : ℕ} → n ≡ bases → ltb 1 n ≡ several_based d c r key o T
   unfolding several_based
-  several-given n = rw (ne_eqb class 255 n)
+  several-count None t {n} p = rw (← p) (more n)
+  several-count (Some class) t p = cc
+
+  pub several-given : (o : Option ℕ) → is_some o ≡ true → false ≡ several_based d c r key o T
+  unfolding several_based
+  several-given None t = cc
+  several-given (Some class) t = refl
+
+  -- how it is answered which entity is meant
+  module _ (o : Option ℕ) where
+    pub admits-none : None ≡ own_of d c r key o T → Err Faults.Absent ≡ admitted d c r key o T
+    unfolding admitted
+    admits-none p = rw (← p, admitted)
+
+    module _ {class : ℕ} (p : Some class ≡ own_of d c r key o T) {b : Bool} (x : b ≡ based d c r key T class) where
+      pub admits-unbased : b ≡ false → Err Faults.Absent ≡ admitted d c r key o T
+      unfolding admitted
+      admits-unbased t = rw (← p, admitted, ← x, t)
+
+      module _ (t : b ≡ true) {s : Bool} (y : s ≡ several_based d c r key o T) where
+        pub admits-several : s ≡ true → Err Faults.Several ≡ admitted d c r key o T
+        unfolding admitted
+        admits-several u = rw (← p, admitted, ← x, t, ← y, u)
+
+        pub admits-entity : s ≡ false → Ok (record { key = key; class = class }) ≡ admitted d c r key o T
+        unfolding admitted
+        admits-entity u = rw (← p, admitted, ← x, t, ← y, u)
+
+-- ---- what the model says of the entity that is meant
+
+module _ (d : Description) (c r key class : ℕ) (T : Tables) where
+  entity-own : {k : ℕ} → Some k ≡ own_of d c r key (given_of class) T → entity_of d c r key class T ≡ cell key k
+  unfolding entity_of given_of own_of
+  entity-own {k} p =
+      cases (eqb class 255)
+      (λ t. let q = (rw t at p) in rw t (ap (cell key) (sym (some-below _ _ q).0)))
+      (λ t. let q : Some k ≡ Some class = (rw t at p) in rw t (ap (cell key) cc))
+
+  entity-none : sound d ≡ true → None ≡ own_of d c r key (given_of class) T → based d c r key T (entity_of d c r key class T).class ≡ false
+  unfolding entity_of given_of own_of
+  entity-none s p =
+      cases (eqb class 255)
+      (λ t. let q = (rw t at p) in
+      let h = none-below _ _ q in
+      let k = first-le d.levels (based d c r key T) in
+      let e : first_below d.levels (based d c r key T) ≡ d.levels = omega (arith, h, k) in
+      rw (t, e) (unseen-past d c r key T s))
+      (λ t. let q : None ≡ Some class = (rw t at p) in cc)
+
+  -- the tests of it
+  abbrev meant : List (Bool × Fault) → List (Bool × Fault)
+  meant ts =
+      (based d c r key T (entity_of d c r key class T).class, Faults.Absent)
+      ∷ (not (several_based d c r key (given_of class) T), Faults.Several) ∷ ts
+
+  -- a refusal is the fault of the first that fails
+  pub refused-by : sound d ≡ true → {f : Fault} → Err f ≡ admitted d c r key (given_of class) T → (ts : List (Bool × Fault)) → first_fault (meant ts) ≡ some f
+  refused-by s {f} e ts = go (own_of d c r key (given_of class) T) refl
+    where
+      several : {k : ℕ} → Some k ≡ own_of d c r key (given_of class) T → {b : Bool} → b ≡ based d c r key T k → b ≡ true
+          → {m : Bool} → m ≡ several_based d c r key (given_of class) T → first_fault (meant ts) ≡ some f
+      several {k} p {b} x t {m} y =
+          cases m
+          (λ u. let q : Err f ≡ Err Faults.Several = e ∙ sym (admits-several d c r key T _ p x t y u) in
+          rw (entity-own p) (first_passes Faults.Absent _ (sym x ∙ t) ∙ (first-fails Faults.Several ts (ap not (sym y ∙ u)) ∙ cc)))
+          (λ u. let q : Err f ≡ Ok (record { key = key; class = k }) = e ∙ sym (admits-entity d c r key T _ p x t y u) in cc)
+
+      go : (o : Option ℕ) → o ≡ own_of d c r key (given_of class) T → first_fault (meant ts) ≡ some f
+      go None p =
+          let q : Err f ≡ Err Faults.Absent = e ∙ sym (admits-none d c r key T _ p) in
+          first-fails Faults.Absent _ (entity-none s p) ∙ cc
+      go (Some k) p =
+          cases (based d c r key T k)
+          (λ t. several p refl t refl)
+          (λ t. let q : Err f ≡ Err Faults.Absent = e ∙ sym (admits-unbased d c r key T _ p refl t) in
+          rw (entity-own p) (first-fails Faults.Absent _ t ∙ cc))
+
+  -- the entity that is answered is the one that is meant, and passes both
+  pub record Admits (e : Entity) : Type 0 where
+    pub key-is : e.key ≡ key
+    pub is : entity_of d c r key class T ≡ cell e.key e.class
+    pub there : based d c r key T e.class ≡ true
+    pub sole : several_based d c r key (given_of class) T ≡ false
+
+  pub admits : {e : Entity} → Ok e ≡ admitted d c r key (given_of class) T → Admits e
+  admits {e} p = go (own_of d c r key (given_of class) T) refl
+    where
+      sole : {k : ℕ} → Some k ≡ own_of d c r key (given_of class) T → based d c r key T k ≡ true → {m : Bool} → m ≡ several_based d c r key (given_of class) T → Admits e
+      sole {k} q t {m} y =
+          cases m
+          (λ u. let z : Ok e ≡ Err Faults.Several = p ∙ sym (admits-several d c r key T _ q refl t y u) in cc)
+          (λ u. let z : Ok e ≡ Ok (record { key = key; class = k }) = p ∙ sym (admits-entity d c r key T _ q refl t y u) in
+          let w : e ≡ record { key = key; class = k } = cc in
+          rw w (record { key-is = refl; is = entity-own q; there = t; sole = sym y ∙ u }))
+
+      go : (o : Option ℕ) → o ≡ own_of d c r key (given_of class) T → Admits e
+      go None q = let z : Ok e ≡ Err Faults.Absent = p ∙ sym (admits-none d c r key T _ q) in cc
+      go (Some k) q =
+          cases (based d c r key T k)
+          (λ t. sole q t refl)
+          (λ t. let z : Ok e ≡ Err Faults.Absent = p ∙ sym (admits-unbased d c r key T _ q refl t) in cc)
+
+-- a base row stands at a level that the subject sees
+pub based-over : (d : Description) (c r key own : ℕ) (T : Tables) → based d c r key T own ≡ true → over d c own ≡ true
+unfolding based
+based-over d c r key own T t = and_left _ _ t
 
 -- ---- the place of the new row
 
-module _ (d : Description) (r i : ℕ) (B : Rows) where
-  pub spot-there : i < row_count d r → i ≡ spot_of d r i B
+module _ (d : Description) (r : ℕ) (B : Rows) where
+  pub spot-there : (o : Option ℕ) → is_some o ≡ true → o ≡ spot_of d r o B
   unfolding spot_of
-  spot-there h = rw (lt-ltb i (row_count d r) h)
+  spot-there None t = cc
+  spot-there (Some i) t = refl
 
-  pub spot-lowest : row_count d r ≤ i → lowest_empty d B r ≡ spot_of d r i B
+  pub spot-lowest : (o : Option ℕ) → is_some o ≡ false → {row : Option ℕ} → Row d r (lowest_empty d B r) row → row ≡ spot_of d r o B
   unfolding spot_of
-  spot-lowest h = rw (le-ltb i (row_count d r) h)
+  spot-lowest None t e = e
+  spot-lowest (Some i) t e = cc
 
-  spot-room : ltb (spot_of d r i B) (row_count d r) ≡ (ltb i (row_count d r) || has_room d B r)
+  spot-room : (o : Option ℕ) → is_some (spot_of d r o B) ≡ (is_some o || has_room d B r)
   unfolding spot_of has_room
-  spot-room = cases (ltb i (row_count d r)) (λ t. rw (t, t)) (λ t. rw t)
+  spot-room None = some-is _ _
+  spot-room (Some i) = refl
+
+-- the fault that is answered where there is none
+pub unfound : {o : Option ℕ} {e f : Fault} → Err e ≡ ok_or o f → (o ≡ None) × (e ≡ f)
+unfound {o = None} p = (refl, cc)
+unfound {o = Some x} p = cc
 
 -- ---- the tests after the entity is known
 
@@ -85,56 +205,37 @@ turned true false = refl
 turned false true = refl
 turned false false = refl
 
-module _ (d : Description) (vs cs : List ℕ) (c r key class : ℕ) (list : List ℕ) (o : over d c c ≡ true) (nz : key ≢ 0) {here : ℕ} (e : here ≡ entity_place d vs cs r c key class) where
+module _ (d : Description) (vs cs : List ℕ) (c r key class : ℕ) (o : over d c c ≡ true) (nz : key ≢ 0)
+    {here : Option ℕ} (e : Row d r (entity_place d vs cs r c key class) here) where
   abbrev S : State
   S = state_of d (holding vs cs)
 
-  abbrev tests : List (Bool × Fault)
-  tests = later_tests d c r (cell key class) list (seen d c S)
-
-  taken-test : (not (used (at d (rows_of (seen d c S)) r c key)) || same (at d (rows_of (seen d c S)) r c key 1) (cell key class)) ≡ not (not (ltb here (row_count d r)) && ltb (key_place d vs r c key) (row_count d r))
+  pub taken-test : (not (used (at d (rows_of (seen d c S)) r c key)) || same (at d (rows_of (seen d c S)) r c key 1) (cell key class)) ≡ not (not (is_some here) && ltb (key_place d vs r c key) (row_count d r))
   taken-test =
       rw (seen_at d S c r c key o, ← (used-is d vs cs r c key nz refl), ← (entity-is d vs cs r c key class nz e))
-      (turned (ltb (key_place d vs r c key) (row_count d r)) (ltb here (row_count d r)))
+      (turned (ltb (key_place d vs r c key) (row_count d r)) (is_some here))
 
-  full-test : (same (at d (rows_of (seen d c S)) r c key 1) (cell key class) || has_room d (seen d c S c).rows r) ≡ ltb (spot_of d r here (S c).rows) (row_count d r)
-  full-test = rw (seen_at d S c r c key o, seen-own d S c o, ← (entity-is d vs cs r c key class nz e)) (sym (spot-room d r here (S c).rows))
+  full-test : (same (at d (rows_of (seen d c S)) r c key 1) (cell key class) || has_room d (seen d c S c).rows r) ≡ is_some (spot_of d r here (S c).rows)
+  full-test = rw (seen_at d S c r c key o, seen-own d S c o, ← (entity-is d vs cs r c key class nz e)) (sym (spot-room d r (S c).rows here))
 
-  module _ {a : Bool} (x : a ≡ (not (ltb here (row_count d r)) && ltb (key_place d vs r c key) (row_count d r))) where
-    pub taken-ends : a ≡ true → Err Faults.Taken ≡ test_of (first_fault tests)
-    unfolding later_tests test_of
-    taken-ends t = sym (ap test_of (first-fails Faults.Taken _ (taken-test ∙ rw (← x, t))))
+  module _ (list : List ℕ) where
+    abbrev tests : List (Bool × Fault)
+    tests = later_tests d c r (cell key class) list (seen d c S)
 
-    module _ (t : a ≡ false) {b : Bool} (y : b ≡ each (rule_of d r (Rules.Above class)) list) where
-      past-taken : first_fault tests ≡ first_fault ((b, Faults.KeyClass) ∷ (borrowed_names d c r (cell key class) list (rows_of (seen d c S)), Faults.Reference) ∷ (ltb (spot_of d r here (S c).rows) (row_count d r), Faults.Full) ∷ [])
-      unfolding later_tests rule_of
-      past-taken = first_passes Faults.Taken _ (taken-test ∙ rw (← x, t)) ∙ rw (y, full-test)
+    -- the last of the tests fails, or none
+    module _ (p : Ok tt ≡ ended (take 3 tests)) {row : Option ℕ} (q : row ≡ spot_of d r here (S c).rows) where
+      pub full : row ≡ None → first_fault tests ≡ some Faults.Full
+      unfolding later_tests
+      full z = first-beyond 3 tests (passed-by p refl) ∙ first-fails Faults.Full [] (full-test ∙ ap is_some (sym q ∙ z))
 
-      pub class-ends : b ≡ false → Err Faults.KeyClass ≡ test_of (first_fault tests)
-      unfolding test_of
-      class-ends u = sym (ap test_of (past-taken ∙ first-fails Faults.KeyClass _ u))
+      pub room : {i : ℕ} → row ≡ Some i → first_fault tests ≡ none
+      unfolding later_tests
+      room z = first-beyond 3 tests (passed-by p refl) ∙ (first_passes Faults.Full [] (full-test ∙ ap is_some (sym q ∙ z)) ∙ first-none)
 
-      module _ (u : b ≡ true) {q : Bool} (z : q ≡ borrowed_names d c r (cell key class) list (rows_of (seen d c S))) where
-        pub reference-ends : q ≡ false → Err Faults.Reference ≡ test_of (first_fault tests)
-        unfolding test_of
-        reference-ends v = sym (ap test_of (past-taken ∙ first_passes Faults.KeyClass _ u ∙ first-fails Faults.Reference _ (sym z ∙ v)))
-
-        module _ (v : q ≡ true) {i : ℕ} (w : i ≡ spot_of d r here (S c).rows) where
-          past-names : first_fault tests ≡ first_fault ((ltb i (row_count d r), Faults.Full) ∷ [])
-          past-names = past-taken ∙ first_passes Faults.KeyClass _ u ∙ first_passes Faults.Reference _ (sym z ∙ v) ∙ rw w
-
-          pub full-ends : row_count d r ≤ i → Err Faults.Full ≡ test_of (first_fault tests)
-          unfolding test_of
-          full-ends h = sym (ap test_of (past-names ∙ first-fails Faults.Full _ (le-ltb i (row_count d r) h)))
-
-          pub passed-ends : i < row_count d r → Ok tt ≡ test_of (first_fault tests)
-          unfolding test_of first_fault
-          passed-ends h = sym (ap test_of (past-names ∙ first_passes Faults.Full [] (lt-ltb i (row_count d r) h)))
-
-  -- where no test fails there is a place
-  pub room : first_fault tests ≡ none → spot_of d r here (S c).rows < row_count d r
-  unfolding later_tests fault_number
-  room n = ltb-true _ _ (sym full-test ∙ pass _ n 13)
+-- what is asked of each FROM level
+pub class-test : (d : Description) (r class : ℕ) (list : List ℕ) {a : Bool} → a ≡ each (rule_of d r (Rules.Above class)) list → each (λ k a. over d a class) list ≡ a
+unfolding rule_of
+class-test d r class list e = sym e
 
 -- ---- one test before others
 
@@ -146,72 +247,49 @@ module _ {d : Description} {c n : ℕ} {E : Effect} {vs cs : List ℕ} (f : Faul
   test-passes e (refuses g p q x y) = refuses g (first_passes f ts e ∙ p) q x y
   test-passes e (does p q x) = does (first_passes f ts e ∙ p) q x
 
--- ---- the tests of the entity
-
--- a base row stands at a level that the subject sees
-pub based-over : (d : Description) (c r key own : ℕ) (T : Tables) {b : Bool} → b ≡ based d c r key T own → b ≡ true → over d c own ≡ true
-unfolding based
-based-over d c r key own T x t = and_left _ _ (sym x ∙ t)
-
-module _ (d : Description) (c r key class own : ℕ) (list vs cs : List ℕ) where
-  abbrev seeing : State
-  seeing = sight d c vs cs
-
-  abbrev Admitted : List ℕ → List ℕ → Answer → Type 0
-  Admitted = Answered d c (entity_tests d c r class (cell key own) list seeing) 1 (uplevelled d c r (cell key own) list (rows_of seeing)) vs cs
-
-  module _ {b : Bool} (x : b ≡ based d c r key (rows_of seeing) own) where
-    pub absent-answer : b ≡ false → Admitted vs cs (Err Faults.Absent)
-    unfolding entity_tests
-    absent-answer t = test-fails Faults.Absent _ (sym x ∙ t)
-
-    module _ (t : b ≡ true) {s : Bool} (y : s ≡ several_based d c r key class (rows_of seeing)) where
-      pub several-answer : s ≡ true → Admitted vs cs (Err Faults.Several)
-      unfolding entity_tests
-      several-answer u = test-passes Faults.Absent _ (sym x ∙ t) (test-fails Faults.Several _ (ap not (sym y ∙ u)))
-
-      pub later-answer : s ≡ false → {vs' cs' : List ℕ} {a : Answer} → Answered d c (later_tests d c r (cell key own) list seeing) 1 (uplevelled d c r (cell key own) list (rows_of seeing)) vs cs vs' cs' a
-          → Admitted vs' cs' a
-      unfolding entity_tests
-      later-answer u A = test-passes Faults.Absent _ (sym x ∙ t) (test-passes Faults.Several _ (ap not (sym y ∙ u)) A)
-
 -- ---- all tests
 
-either : (a b : Bool) → (not a || b) ≡ not (a && not b)
-either true true = refl
-either true false = refl
-either false b = refl
+not_twice : (b : Bool) → not (not b) ≡ b
+not_twice true = refl
+not_twice false = refl
 
 -- what the subject sees of the levels that are named
-module _ (d : Description) (c class : ℕ) where
-  pub class-free : class ≡ 255 → true ≡ class_seen d c class
-  unfolding class_seen
-  class-free e = rw (eq-eqb class 255 e)
+pub sees-class : (d : Description) (c : ℕ) {o : Option ℕ} {class : ℕ} {b : Bool} → o ≡ Some class → b ≡ over d c class → b ≡ class_seen d c o
+unfolding class_seen
+sees-class d c e x = rw e x
 
-  pub class-given : class ≢ 255 → {b : Bool} → b ≡ over d c class → b ≡ class_seen d c class
-  unfolding class_seen
-  class-given n x = rw (ne_eqb class 255 n) x
+pub sees-none : (d : Description) (c : ℕ) {o : Option ℕ} → o ≡ None → true ≡ class_seen d c o
+unfolding class_seen
+sees-none d c e = rw e
 
-  module _ (list : List ℕ) where
-    pub class-unseen : {b : Bool} → b ≡ class_seen d c class → b ≡ false → false ≡ levels_seen d c class list
-    unfolding levels_seen
-    class-unseen x t = rw (← x, t)
+module _ (d : Description) (c : ℕ) (given : Option ℕ) (list : List ℕ) where
+  pub class-unseen : {b : Bool} → b ≡ class_seen d c given → b ≡ false → false ≡ levels_seen d c given list
+  unfolding levels_seen
+  class-unseen x t = rw (← x, t)
 
-    pub levels-seen : (r : ℕ) {a b : Bool} → a ≡ class_seen d c class → a ≡ true → b ≡ each (rule_of d r (Rules.Below c)) list → b ≡ levels_seen d c class list
-    unfolding levels_seen rule_of
-    levels-seen r x t y = rw (← x, t) y
+  pub levels-seen : (r : ℕ) {a b : Bool} → a ≡ class_seen d c given → a ≡ true → b ≡ each (rule_of d r (Rules.Below c)) list → b ≡ levels_seen d c given list
+  unfolding levels_seen rule_of
+  levels-seen r x t y = rw (← x, t) y
 
-    pub from-sees : {b : Bool} → b ≡ levels_seen d c class list → b ≡ true → each (λ k a. over d c a) list ≡ true
-    unfolding levels_seen
-    from-sees y u = and_right (class_seen d c class) _ (sym y ∙ u)
+  pub from-sees : {b : Bool} → b ≡ levels_seen d c given list → b ≡ true → each (λ k a. over d c a) list ≡ true
+  unfolding levels_seen
+  from-sees y u = and_right (class_seen d c given) _ (sym y ∙ u)
 
-tests-are : (d : Description) (c r key class : ℕ) (list : List ℕ) (S : State)
-    → uplevel_tests d c r key class list S ≡ ((levels_seen d c class list, Faults.Unseen)
-    ∷ (each (λ k a. in_range d r k a) list, Faults.Range) ∷ entity_tests d c r class (entity_of d c r key class (rows_of S)) list S)
-unfolding uplevel_tests class_seen levels_seen entity_tests later_tests several_based entity_of
-tests-are d c r key class list S = rw (either (eqb class 255) (leb (count_below d.levels (based d c r key (rows_of S))) 1))
+seen-either : (d : Description) (c class : ℕ) → (eqb class 255 || over d c class) ≡ class_seen d c (given_of class)
+unfolding class_seen given_of
+seen-either d c class = cases (eqb class 255) (λ t. rw t) (λ t. rw t)
 
-module _ (d : Description) (c r key class : ℕ) (list vs cs : List ℕ) {b : Bool} (x : b ≡ levels_seen d c class list) where
+several-either : (d : Description) (c r key class : ℕ) (T : Tables) → (not (eqb class 255) || leb (count_below d.levels (based d c r key T)) 1) ≡ not (several_based d c r key (given_of class) T)
+unfolding several_based given_of
+several-either d c r key class T = cases (eqb class 255) (λ t. rw t (sym (not_twice _))) (λ t. rw t)
+
+tests-are : (d : Description) (c r key class : ℕ) (list : List ℕ) (A : State)
+    → uplevel_tests d c r key class list A ≡ ((levels_seen d c (given_of class) list, Faults.Unseen)
+    ∷ (each (λ k a. in_range d r k a) list, Faults.Range) ∷ meant d c r key class (rows_of A) (later_tests d c r (entity_of d c r key class (rows_of A)) list A))
+unfolding uplevel_tests levels_seen later_tests entity_of
+tests-are d c r key class list A = rw (seen-either d c class, several-either d c r key class (rows_of A))
+
+module _ (d : Description) (c r key class : ℕ) (list vs cs : List ℕ) {b : Bool} (x : b ≡ levels_seen d c (given_of class) list) where
   abbrev T : State
   T = sight d c vs cs
 
@@ -226,10 +304,15 @@ module _ (d : Description) (c r key class : ℕ) (list vs cs : List ℕ) {b : Bo
     pub range-answer : h ≡ false → Uplevels d c r key class list vs cs vs cs (Err Faults.Range)
     range-answer u = rw (tests-are d c r key class list T) (test-passes Faults.Unseen _ (sym x ∙ t) (test-fails Faults.Range _ (range-is ∙ u)))
 
-    entity-answer : {vs' cs' : List ℕ} {a : Answer} → h ≡ true → (e : Cell) → entity_of d c r key class (rows_of T) ≡ e
-        → Answered d c (entity_tests d c r class e list T) 1 (uplevelled d c r e list (rows_of T)) vs cs vs' cs' a → Uplevels d c r key class list vs cs vs' cs' a
-    entity-answer u e q A = rw (tests-are d c r key class list T, q) (test-passes Faults.Unseen _ (sym x ∙ t) (test-passes Faults.Range _ (range-is ∙ u) A))
+    module _ (u : h ≡ true) where
+      pub refused-answer : sound d ≡ true → {f : Fault} → Err f ≡ admitted d c r key (given_of class) (rows_of T) → Uplevels d c r key class list vs cs vs cs (Err f)
+      refused-answer s e =
+          rw (tests-are d c r key class list T)
+          (test-passes Faults.Unseen _ (sym x ∙ t) (test-passes Faults.Range _ (range-is ∙ u) (refuses _ (refused-by d c r key class (rows_of T) s e _) refl refl refl)))
 
-    pub admitted-answer : h ≡ true → {own : ℕ} → own ≡ (entity_of d c r key class (rows_of T)).class → {vs' cs' : List ℕ} {a : Answer}
-        → Answered d c (entity_tests d c r class (cell key own) list T) 1 (uplevelled d c r (cell key own) list (rows_of T)) vs cs vs' cs' a → Uplevels d c r key class list vs cs vs' cs' a
-    admitted-answer u {own} q A = entity-answer u (cell key own) (key-kept d c r key class (rows_of T) ∙ ap (cell key) (sym q)) A
+      pub raised-answer : {e : Entity} → Ok e ≡ admitted d c r key (given_of class) (rows_of T) → {vs' cs' : List ℕ} {a : Answer}
+          → Raises d c r (cell e.key e.class) list vs cs vs' cs' a → Uplevels d c r key class list vs cs vs' cs' a
+      raised-answer {e} p A =
+          let q = admits d c r key class (rows_of T) p in
+          rw (tests-are d c r key class list T, q.is)
+          (test-passes Faults.Unseen _ (sym x ∙ t) (test-passes Faults.Range _ (range-is ∙ u) (test-passes Faults.Absent _ q.there (test-passes Faults.Several _ (ap not q.sole) A))))

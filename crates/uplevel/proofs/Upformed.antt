@@ -1,16 +1,16 @@
--- Whether an UPLEVEL's list and key are well formed, way by way.
+-- Whether an UPLEVEL's list and key are well formed, test by test.
 -- Assumes nothing.
+use Rattle.std.specs.Prelude.{Option, is_some}
 use Prim.Native.Nat.{ℕ, ◌%◌, ◌/◌, ◌≤◌, ◌<◌}
-use mathlib.Core.Path.{◌≡◌, sym, ◌∙◌}
+use mathlib.Core.Path.{◌≡◌, refl, sym, ap, ◌∙◌}
 use mathlib.Core.Bool.{Bool, true, false, not, ◌&&◌, ◌||◌}
-use mathlib.Core.Logic.{◌≢◌}
+use mathlib.Core.Logic.{◌≢◌, ◌⊎◌, inl, inr}
 use mathlib.Core.List.{List}
+use native.Mathlib.Omega.{arith}
 use lib.Dec.{eqb, ltb}
 use lib.ListN.{length}
-use borrow.Author.Tests.{eq-eqb, ne_eqb, lt-ltb, le-ltb}
 use Rattle.bounded.proofs.Any.{any-first}
-use Rattle.bounded.proofs.Cases.{and-false-right}
-use Rattle.bounded.proofs.Reflection.{of-true, bool-r, not-r, and_r, eqb-r}
+use Rattle.bounded.proofs.Reflection.{of-true, bool-r, not-r, and_r, or_r, eqb-r, ltb-r}
 use Rattle.model.specs.declared.Description.{Description}
 use Rattle.model.specs.Description.{is_level, is_column, over}
 use Rattle.model.specs.Listed.{whole, pairs, column_at, each, lists, columns_once}
@@ -18,55 +18,40 @@ use Rattle.model.specs.Uplevel.{uplevel_formed}
 use Rattle.asked.specs.declared.pairs.Rule.TheVariants as Rules
 use Rattle.asked.specs.Facts.{rule_of, Found}
 use Rattle.uplevel.specs.Raising.{Listing}
+use Rattle.uplevel.proofs.Entities.{some-is}
 
-module _ (d : Description) (r key class : ℕ) (list : List ℕ) where
-  abbrev formed : Bool
-  formed = uplevel_formed d r key class list
+-- test after test
+pub formed-tests : (d : Description) (r key class : ℕ) (list : List ℕ)
+    → uplevel_formed d r key class list
+    ≡ (eqb (length list % 2) 0 && (each (rule_of d r Rules.From) list && (columns_once list && (not (lists list 1) && (not (eqb key 0) && (eqb class 255 || ltb class d.levels))))))
+unfolding uplevel_formed whole rule_of is_level
+formed-tests d r key class list = refl
 
-  pub cut-formed : (length list % 2 ≡ 0 → ⊥) → false ≡ formed
-  unfolding uplevel_formed whole
-  cut-formed n = rw (ne_eqb (length list % 2) 0 n)
+-- whether the key is listed
+pub key-lists : (list : List ℕ) {o : Option ℕ} → Found list 1 o → lists list 1 ≡ is_some o
+unfolding lists pairs
+key-lists list z = any-first (length list / 2) (λ j. eqb (column_at list j) 1) ∙ (sym (some-is _ _) ∙ sym (ap is_some z))
 
-  module _ (w : length list % 2 ≡ 0) {a : Bool} (x : a ≡ each (rule_of d r Rules.From) list) where
-    exists : each (λ k l. is_column d r k && is_level d l) list ≡ a
-    unfolding rule_of
-    exists = sym x
+-- ---- what a well formed one says
 
-    pub exists-formed : a ≡ false → false ≡ formed
-    unfolding uplevel_formed
-    exists-formed t = sym (and-false-right (whole 2 list) _ (rw (exists, t)))
+module _ (d : Description) (r key class : ℕ) (list : List ℕ) (t : uplevel_formed d r key class list ≡ true) where
+  says : (each (λ k a. is_column d r k && is_level d a) list ≡ true) × ((key ≢ 0) × ((class ≡ 255) ⊎ (class < d.levels)))
+  unfolding uplevel_formed is_level
+  says =
+      let h = of-true (and_r (bool-r (whole 2 list)) (and_r (bool-r (each (λ k a. is_column d r k && is_level d a) list)) (and_r (bool-r (columns_once list)) (and_r (bool-r (not (lists list 1))) (and_r (not-r (eqb-r key 0)) (or_r (eqb-r class 255) (ltb-r class d.levels))))))) t in
+      (h.1.0, (h.1.1.1.1.0, h.1.1.1.1.1))
 
-    module _ (t : a ≡ true) {b : Bool} (y : b ≡ columns_once list) where
-      pub once-formed : b ≡ false → false ≡ formed
-      unfolding uplevel_formed whole
-      once-formed u = rw (eq-eqb (length list % 2) 0 w, exists, t, ← y, u)
+  pub formed-key : key ≢ 0
+  formed-key = says.1.0
 
-      module _ (u : b ≡ true) {i : ℕ} (z : Found list 1 i) where
-        key-lists : lists list 1 ≡ ltb i (length list / 2)
-        unfolding lists pairs
-        key-lists = any-first (length list / 2) (λ j. eqb (column_at list j) 1) ∙ rw z.is
+  -- there is a key, and the columns and FROM levels that are listed exist
+  pub formed-lists : (c : ℕ) → each (λ k a. over d c a) list ≡ true → Listing d r c key list
+  formed-lists c s = record { some_key = formed-key; columns = says.0; seen = s }
 
-        rest : formed ≡ (not (lists list 1) && (not (eqb key 0) && (eqb class 255 || is_level d class)))
-        unfolding uplevel_formed whole
-        rest = rw (eq-eqb (length list % 2) 0 w, exists, t, ← y, u)
-
-        pub key-formed : i < length list / 2 → false ≡ formed
-        key-formed h = sym (rest ∙ rw (key-lists, lt-ltb i (length list / 2) h))
-
-        module _ (h : length list / 2 ≤ i) where
-          pub null-formed : key ≡ 0 → false ≡ formed
-          null-formed e = sym (rest ∙ rw (key-lists, le-ltb i (length list / 2) h, eq-eqb key 0 e))
-
-          pub free-formed : key ≢ 0 → class ≡ 255 → true ≡ formed
-          free-formed n e = sym (rest ∙ rw (key-lists, le-ltb i (length list / 2) h, ne_eqb key 0 n, eq-eqb class 255 e))
-
-          pub given-formed : key ≢ 0 → class ≢ 255 → ltb class d.levels ≡ formed
-          unfolding is_level
-          given-formed n m = sym (rest ∙ rw (key-lists, le-ltb i (length list / 2) h, ne_eqb key 0 n, ne_eqb class 255 m))
-
--- a well formed one has a key, its columns and FROM levels exist
-pub formed-lists : (d : Description) (r c key class : ℕ) (list : List ℕ) → uplevel_formed d r key class list ≡ true → each (λ k a. over d c a) list ≡ true → Listing d r c key list
-unfolding uplevel_formed
-formed-lists d r c key class list t s =
-    let h = of-true (and_r (bool-r (whole 2 list)) (and_r (bool-r (each (λ k a. is_column d r k && is_level d a) list)) (and_r (bool-r (columns_once list)) (and_r (bool-r (not (lists list 1))) (and_r (not-r (eqb-r key 0)) (bool-r (eqb class 255 || is_level d class))))))) t in
-    record { some_key = h.1.1.1.1.0; columns = h.1.0; seen = s }
+  -- a key class that is given exists, so its number is below 256
+  pub class-small : d.levels ≤ 16 → class ≤ 255
+  class-small f = go says.1.1
+    where
+      go : (class ≡ 255) ⊎ (class < d.levels) → class ≤ 255
+      go (inl e) = omega arith
+      go (inr h) = omega arith

@@ -1,6 +1,6 @@
 -- What an UPLEVEL leaves: the new row at its place; and a plan in which the entity's row is chosen does above what the model says.
 -- Assumes nothing.
-use Rattle.std.specs.Prelude.{if◌then◌else◌}
+use Rattle.std.specs.Prelude.{Option as Opt, Some, None, is_some, if◌then◌else◌}
 use Prim.Native.Nat.{ℕ, ◌≤◌, ◌<◌}
 use mathlib.Core.Path.{◌≡◌, refl, sym, ap, ◌∙◌}
 use mathlib.Core.Bool.{Bool, true, false, ◌&&◌}
@@ -15,6 +15,7 @@ use borrow.Author.Tests.{ltb-true, ltb-false, eqb-true, eqb-false, eq-eqb, ne_eq
 use Rattle.bounded.specs.Tests.{Reflects, holds, fails}
 use Rattle.bounded.proofs.Cases.{cases, clash, and-false-right}
 use Rattle.bounded.proofs.First.{first_holds}
+use Rattle.bounded.proofs.Found.{some-below}
 use Rattle.bounded.proofs.Reflection.{is_true, is_false, of-true, and_r, bool-r, eqb-r, ltb-r}
 use Rattle.model.specs.declared.Description.{Description}
 use Rattle.model.specs.Description.{between, is_level, is_column, over, in_range, row_count, column_count, refers_of}
@@ -32,19 +33,23 @@ use Rattle.theory.proofs.Fine.{cell-path, nocell-class, no-level}
 use Rattle.theory.proofs.Judged.{judged}
 use Rattle.theory.proofs.Reach.{Side, at_c, over-c, off-c, side}
 use Rattle.theory.proofs.Seen.{seen-own}
-use Rattle.cells.specs.declared.layout.Part.{Part}
+use Rattle.cells.specs.Layout.{Row as Sought}
 use Rattle.cells.specs.Changed.{entity_place, listed_row, with_row, change_level}
 use Rattle.cells.proofs.Cells.{state-path}
 use Rattle.cells.proofs.Changes.{change-here, change-other}
-use Rattle.above.specs.Facts.{Working, Planned, chosen_at, change_of, above_of, carried}
+use Rattle.above.specs.declared.plan.Change.TheVariants as Changes
+use Rattle.above.specs.declared.plan.Plan.{Plan}
+use Rattle.above.specs.Facts as Above
+use Rattle.above.specs.Facts.{Working, Planned, chosen_at, effect_of, change_of, above_of, carried}
 use Rattle.above.proofs.Carried.{carried-own, carried-aside, carried-cell}
 use Rattle.uplevel.specs.declared.made.News.{News}
 use Rattle.change.specs.Facts.{Standing}
-use Rattle.uplevel.specs.Raising.{plan_of, spot_of, Listing, Composed}
+use Rattle.uplevel.specs.Raising.{Planning, spot_of, Listing, Composed}
+use Rattle.uplevel.specs.Raised.{Replaces}
 use Rattle.change.proofs.Answers.{left-own, left_over, left_other}
 use Rattle.cells.proofs.Counts.{relation-is}
 use Rattle.change.proofs.Known.{own-over}
-use Rattle.uplevel.proofs.Entities.{entity-is, entity-place}
+use Rattle.uplevel.proofs.Entities.{entity-is, entity-found}
 use Rattle.uplevel.proofs.Borrowing.{listed-column}
 
 -- ---- one row chosen
@@ -67,11 +72,10 @@ outer : (d : Description) (s l i k : ℕ) → between 1 (column_count d s) k ≡
 unfolding inside is_column
 outer d s l i k h = rw h
 
-pub working : {d : Description} {order : List (List Bool)} {r c : ℕ} {p : Part} {vs cs : List ℕ} → Standing d order r c p vs cs → Working d order r c (state_of d (holding vs cs))
-working {d} {order} {r} {c} {p} {vs} {cs} S =
+pub working : {d : Description} {r c : ℕ} {vs cs : List ℕ} → Standing d r c vs cs → Working d r c (state_of d (holding vs cs))
+working {d} {r} {c} {vs} {cs} S =
     record {
       sound-is = S.sound-is;
-      order_is = S.order_is;
       relation = S.relation;
       level = S.level;
       outside = λ s l i k h. L.outside s l i k h;
@@ -82,44 +86,34 @@ working {d} {order} {r} {c} {p} {vs} {cs} S =
     L : Legal d (rows_of (state_of d (holding vs cs)))
     L = of-true (judged d (sound-laws d S.sound-is) (state_of d (holding vs cs)) (state-framed d (holding vs cs))) S.legal-is
 
--- every kind is 2
-twos : List ℕ
-twos = replicate 9 2
+-- ---- what is planned
 
-two_at : (k : ℕ) → k < 9 → get_or twos k 0 ≡ 2
-unfolding twos
-two_at k h = get_or-replicate 9 k 2 0 h
+module _ {row : ℕ} {there : Bool} {news : News} {P : Plan} (N : Planning row there news P) where
+  planned_at : (k : ℕ) → k < 9 → change_of P k ≡ only (listed_row news.values news.classes k)
+  unfolding change_of effect_of listed_row
+  planned_at k h = rw (N.changes.only k h)
 
-two : (k : ℕ) → get_or twos k 0 ≢ 1
-unfolding twos
-two k =
-    cases (ltb k 9)
-    (λ t e. omega (arith, e, two_at k (ltb-true k 9 t)))
-    (λ t e. omega (arith, e, get_or-eq_default twos 0 {n = k} (ltb-false k 9 t)))
+  -- no cell is taken
+  none-taken : (k v o : ℕ) → Above.planned P k ≡ Changes.Take v o → ⊥
+  none-taken k v o e =
+      cases (ltb k 9)
+      (λ t. let q = N.changes.only k (ltb-true k 9 t) in
+      let z : Changes.Only (get_or news.values k 0) (get_or news.classes k 0) ≡ Changes.Take v o = sym q ∙ e in cc)
+      (λ t. let q : get_or P.changes k Changes.Keep ≡ Changes.Keep = get_or-eq_default P.changes Changes.Keep {n = k} (rw N.changes.long (ltb-false k 9 t)) in
+      let z : Changes.Keep ≡ Changes.Take v o = sym q ∙ e in cc)
 
-pub planned : (d : Description) (r c row : ℕ) (there : Bool) (news : News) (B : ℕ → Row) → row < 64 → length news.values ≡ 9 → length news.classes ≡ 9
-    → (there ≡ true → (B row 1).value ≢ 0) → Planned d r c (plan_of row there news) B
-unfolding plan_of twos
-planned d r c row there news B h v w n =
-    record {
-      chosen = length-set (replicate 64 false) row there;
-      values = v;
-      classes = w;
-      real = λ i _ t. real i (of-true (and_r (eqb-r i row) (bool-r there)) (sym (one-chosen row there h i) ∙ t));
-      own = λ k e. absurd (two k e);
-      key = two 1;
-    }
-  where
-    real : (i : ℕ) → (i ≡ row) × (there ≡ true) → (B i 1).value ≢ 0
-    real i q = rw q.0 (n q.1)
-
--- what is done above by such a plan, and then at c
-pub written : (d : Description) (r c row : ℕ) (there : Bool) (news : News) (f : Level → Level) (S : State) {T U : State} {chosen : List Bool} → chosen ≡ set (replicate 64 false) row there
-    → T ≡ carried d c r (record { chosen = chosen; gone = false; kinds = replicate 9 2; values = news.values; classes = news.classes }) S
-    → U ≡ change_level c f T → U ≡ change_level c f (carried d c r (plan_of row there news) S)
-unfolding plan_of
-written d r c row there news f S {T} {U} m p q =
-    q ∙ ap (change_level c f) (p ∙ ap (λ (x : List Bool). carried d c r (record { chosen = x; gone = false; kinds = replicate 9 2; values = news.values; classes = news.classes }) S) m)
+  pub planned : (d : Description) (r c : ℕ) (B : ℕ → Row) → row < 64 → (there ≡ true → (B row 1).value ≢ 0) → Planned d r c P B
+  planned d r c B h n =
+      record {
+        chosen = ap length N.chosen ∙ length-set (replicate 64 false) row there;
+        changes = N.changes.long;
+        real = λ i _ t. real i (of-true (and_r (eqb-r i row) (bool-r there)) (sym (one-chosen row there h i) ∙ (rw N.chosen at t)));
+        own = λ k v o e. absurd (none-taken k v o e);
+        key = none-taken 1;
+      }
+    where
+      real : (i : ℕ) → (i ≡ row) × (there ≡ true) → (B i 1).value ≢ 0
+      real i q = rw q.0 (n q.1)
 
 -- ---- the rows above
 
@@ -141,7 +135,7 @@ place-key : (n : ℕ) (B : ℕ → Row) (v : ℕ) → place n B v < n → (B (pl
 unfolding place
 place-key n B v h = eqb-true _ _ (first_holds n (λ i. eqb (B i 1).value v) h)
 
-module _ (d : Description) (order : List (List Bool)) (r c : ℕ) (S : State) (W : Working d order r c S) (e : Cell) (R : Row) (row : ℕ) (there : Bool) (news : News)
+module _ (d : Description) (r c : ℕ) (S : State) (W : Working d r c S) (e : Cell) (R : Row) {row : ℕ} {there : Bool} {news : News} {P : Plan} (N : Planning row there news P)
     (is : there ≡ same (seek (row_count d r) ((S c).rows r) e.value 1) e)
     (spot : row ≡ (if there then place (row_count d r) ((S c).rows r) e.value else lowest_empty d (S c).rows r))
     (few : row < 64) (within : row < row_count d r)
@@ -158,28 +152,27 @@ module _ (d : Description) (order : List (List Bool)) (r c : ℕ) (S : State) (W
   row-place t = spot ∙ rw t
 
   -- the entity's row is chosen where it is there, and no other
-  chosen-as : (v : ℕ) → chosen_at (row_count d r) (set (replicate 64 false) row there) (B r) v ≡ (eqb v e.value && there)
+  chosen-as : (v : ℕ) → chosen_at (row_count d r) P.chosen (B r) v ≡ (eqb v e.value && there)
   unfolding chosen_at
   chosen-as v =
-      rw (one-chosen row there few (place (row_count d r) (B r) v))
+      rw (N.chosen, one-chosen row there few (place (row_count d r) (B r) v))
       (alike
       (and_r (ltb-r (place (row_count d r) (B r) v) (row_count d r)) (and_r (eqb-r (place (row_count d r) (B r) v) row) (bool-r there)))
       (and_r (eqb-r v e.value) (bool-r there))
       (λ p. (sym (place-key (row_count d r) (B r) v p.0) ∙ ap (λ (i : ℕ). (B r i 1).value) (p.1.0 ∙ row-place p.1.1) ∙ place-key (row_count d r) (B r) e.value (rw (row-place p.1.1) at within), p.1.1))
       (λ q. let p : place (row_count d r) (B r) v ≡ row = rw q.0 (sym (row-place q.1)) in (rw p within, (p, q.1))))
 
-  change-is : (k : ℕ) → between 1 (column_count d r) k ≡ true → change_of (plan_of row there news) k ≡ only (R k)
-  unfolding change_of plan_of listed_row twos
+  change-is : (k : ℕ) → between 1 (column_count d r) k ≡ true → change_of P k ≡ only (R k)
   change-is k b =
       let h : k < 9 = omega (arith, (of-true (between-r 1 (column_count d r) k) b).1, narrow) in
-      rw (two_at k h) (ap only (right k b))
+      planned_at N k h ∙ ap only (right k b)
 
   -- what the plan does to a cell above is what the effect does
-  own-change : (v k : ℕ) → between 1 (column_count d r) k ≡ true → (above_of d c r (plan_of row there news) B).change r v k ≡ E.above.change r v k
-  unfolding above_of placed plan_of
+  own-change : (v k : ℕ) → between 1 (column_count d r) k ≡ true → (above_of d c r P B).change r v k ≡ E.above.change r v k
+  unfolding above_of placed
   own-change v k b = rw (chosen-as v, ← is, change-is k b)
 
-  same-change : (s v k : ℕ) → between 1 (column_count d s) k ≡ true → (above_of d c r (plan_of row there news) B).change s v k ≡ E.above.change s v k
+  same-change : (s v k : ℕ) → between 1 (column_count d s) k ≡ true → (above_of d c r P B).change s v k ≡ E.above.change s v k
   unfolding above_of placed
   same-change s v k b =
       cases (eqb s r)
@@ -187,13 +180,13 @@ module _ (d : Description) (order : List (List Bool)) (r c : ℕ) (S : State) (W
       (λ t. rw t)
 
   -- and neither empties a row
-  same-gone : (s v : ℕ) → (above_of d c r (plan_of row there news) B).gone s v ≡ E.above.gone s v
-  unfolding above_of placed plan_of
-  same-gone s v = and-false-right (eqb s r) false refl
+  same-gone : (s v : ℕ) → (above_of d c r P B).gone s v ≡ E.above.gone s v
+  unfolding above_of placed
+  same-gone s v = and-false-right (eqb s r) _ (rw N.gone)
 
-  above-cell : (s l i k : ℕ) → reach d (at d (rows_of S)) c (above_of d c r (plan_of row there news) B) s l ((S l).rows s i) k ≡ reach d (at d (rows_of S)) c E.above s l ((S l).rows s i) k
+  above-cell : (s l i k : ℕ) → reach d (at d (rows_of S)) c (above_of d c r P B) s l ((S l).rows s i) k ≡ reach d (at d (rows_of S)) c E.above s l ((S l).rows s i) k
   above-cell s l i k =
-      reach-alike d (at d (rows_of S)) c (above_of d c r (plan_of row there news) B) E.above s l ((S l).rows s i) k same-gone
+      reach-alike d (at d (rows_of S)) c (above_of d c r P B) E.above s l ((S l).rows s i) k same-gone
       (λ q. cases (between 1 (column_count d s) k)
       (same-change s ((S l).rows s i 1).value k)
       (λ b. absurd (no-level (sound-laws d W.sound-is) (sym q ∙ nocell-class (W.beyond s l i k b)) W.level)))
@@ -225,21 +218,21 @@ module _ (d : Description) (order : List (List Bool)) (r c : ℕ) (S : State) (W
 
   -- ---- the whole
 
-  pub left_by : change_level c (with_row (column_count d r) r row (listed_row news.values news.classes)) (carried d c r (plan_of row there news) S) ≡ left d c (some E) S
+  pub left_by : change_level c (with_row (column_count d r) r row (listed_row news.values news.classes)) (carried d c r P S) ≡ left d c (some E) S
   left_by = state-path (λ l s i k. go l s i k (side d c l))
     where
-      go : (l s i k : ℕ) → Side d c l → (change_level c (with_row (column_count d r) r row (listed_row news.values news.classes)) (carried d c r (plan_of row there news) S) l).rows s i k ≡ (left d c (some E) S l).rows s i k
+      go : (l s i k : ℕ) → Side d c l → (change_level c (with_row (column_count d r) r row (listed_row news.values news.classes)) (carried d c r P S) l).rows s i k ≡ (left d c (some E) S l).rows s i k
       go l s i k (at_c q) =
           rw q
-          (ap (λ (K : Level). K.rows s i k) (change-here c _ (carried d c r (plan_of row there news) S))
-          ∙ ap (λ (K : Level). (with_row (column_count d r) r row (listed_row news.values news.classes) K).rows s i k) (carried-own d c r (plan_of row there news) S)
+          (ap (λ (K : Level). K.rows s i k) (change-here c _ (carried d c r P S))
+          ∙ ap (λ (K : Level). (with_row (column_count d r) r row (listed_row news.values news.classes) K).rows s i k) (carried-own d c r P S)
           ∙ own-cell s i k ∙ sym (left-own d c E S s i k))
       go l s i k (over-c n o) =
-          ap (λ (K : Level). K.rows s i k) (change-other c l _ (carried d c r (plan_of row there news) S) (λ q. n (sym q)))
-          ∙ carried-cell d c r (plan_of row there news) S l n o s i k ∙ above-cell s l i k ∙ sym (left_over d c E S s l i k n o)
+          ap (λ (K : Level). K.rows s i k) (change-other c l _ (carried d c r P S) (λ q. n (sym q)))
+          ∙ carried-cell d c r P S l n o s i k ∙ above-cell s l i k ∙ sym (left_over d c E S s l i k n o)
       go l s i k (off-c n o) =
           let f : over d l c ≡ false = is_false (bool-r (over d l c)) o in
-          ap (λ (K : Level). K.rows s i k) (change-other c l _ (carried d c r (plan_of row there news) S) (λ q. n (sym q)) ∙ carried-aside d c r (plan_of row there news) S l n f)
+          ap (λ (K : Level). K.rows s i k) (change-other c l _ (carried d c r P S) (λ q. n (sym q)) ∙ carried-aside d c r P S l n f)
           ∙ sym (left_other d c E S s l i k n f)
 
 -- ---- the statement
@@ -254,28 +247,32 @@ raised-beyond d c r e list W h s k b = rw (ne_eqb k 1 (λ q. clash (is_true (bet
     go none q = rw b
     go (some a) q = clash (listed-column d r list k a s q) b
 
-module _ {d : Description} {order : List (List Bool)} {r c : ℕ} {p : Part} {vs cs : List ℕ} (St : Standing d order r c p vs cs) (key class : ℕ) (list : List ℕ) (L : Listing d r c key list)
-    {here row : ℕ} {there : Bool} (h : here ≡ entity_place d vs cs r c key class) (w : row ≡ spot_of d r here (state_of d (holding vs cs) c).rows) (in_rows : row < row_count d r)
-    (t : there ≡ ltb here (row_count d r)) where
+module _ {d : Description} {r c : ℕ} {vs cs : List ℕ} (St : Standing d r c vs cs) (key class : ℕ) (list : List ℕ) (L : Listing d r c key list)
+    {here : Opt ℕ} {row : ℕ} (h : Sought d r (entity_place d vs cs r c key class) here) (w : Some row ≡ spot_of d r here (state_of d (holding vs cs) c).rows) where
   abbrev S : State
   S = state_of d (holding vs cs)
 
-  there-is : there ≡ same (seek (row_count d r) ((S c).rows r) key 1) (cell key class)
+  there-is : is_some here ≡ same (seek (row_count d r) ((S c).rows r) key 1) (cell key class)
   unfolding at
-  there-is = t ∙ entity-is d vs cs r c key class L.some_key h
+  there-is = entity-is d vs cs r c key class L.some_key h
 
-  spot_is : row ≡ (if there then place (row_count d r) ((S c).rows r) key else lowest_empty d (S c).rows r)
+  -- it is the entity's, or the lowest empty one
+  spot_is : (row < row_count d r) × (row ≡ (if is_some here then place (row_count d r) ((S c).rows r) key else lowest_empty d (S c).rows r))
   unfolding spot_of
-  spot_is =
-      w ∙ rw t
-      (cases (ltb here (row_count d r))
-      (λ u. rw (u, ← (entity-place d vs cs r c key class L.some_key h (ltb-true _ _ u))))
-      (λ u. rw u))
+  spot_is = go here h w
+    where
+      go : (o : Opt ℕ) → Sought d r (entity_place d vs cs r c key class) o → Some row ≡ spot_of d r o (S c).rows
+          → (row < row_count d r) × (row ≡ (if is_some o then place (row_count d r) ((S c).rows r) key else lowest_empty d (S c).rows r))
+      go None e q = let f = some-below _ _ q in (rw f.0 f.1, f.0)
+      go (Some i) e q = let f = entity-found d vs cs r c key class e in let z : row ≡ i = cc in (rw z f.within, z ∙ f.first)
+
+  pub in_rows : row < row_count d r
+  in_rows = spot_is.0
 
   -- the entity's row is in use
-  pub row-used : there ≡ true → ((S c).rows r row 1).value ≢ 0
+  pub row-used : is_some here ≡ true → ((S c).rows r row 1).value ≢ 0
   row-used u z =
-      let q : row ≡ place (row_count d r) ((S c).rows r) key = spot_is ∙ rw u in
+      let q : row ≡ place (row_count d r) ((S c).rows r) key = spot_is.1 ∙ rw u in
       L.some_key (sym (place-key (row_count d r) ((S c).rows r) key (rw q at in_rows)) ∙ ap (λ (i : ℕ). ((S c).rows r i 1).value) (sym q) ∙ z)
 
   module _ {news : News} (C : Composed d c r (cell key class) list (rows_of (seen d c S)) news) where
@@ -290,12 +287,11 @@ module _ {d : Description} {order : List (List Bool)} {r c : ℕ} {p : Part} {vs
     unfolding R uplevelled
     seen-is = ap (λ (B : Rows). left d c (some (placed d r (cell key class) (raised d (at d (rows_of (seen d c S))) c r (cell key class) list) B)) S) (sym (seen-own d S c (own-over St)))
 
-    pub uplevel-left : {S' : State} → S' ≡ change_level c (with_row (column_count d r) r row (listed_row news.values news.classes)) (carried d c r (plan_of row there news) S)
-        → S' ≡ left d c (some (uplevelled d c r (cell key class) list (rows_of (seen d c S)))) S
+    pub uplevel-left : column_count d r ≤ 8 → row < 64 → {vs' cs' : List ℕ} → Replaces d r c row (is_some here) news vs cs vs' cs'
+        → state_of d (holding vs' cs') ≡ left d c (some (uplevelled d c r (cell key class) list (rows_of (seen d c S)))) S
     unfolding R
-    uplevel-left q =
-        q
-        ∙ left_by d order r c S (working St) (cell key class) R row there news there-is spot_is (omega (arith, St.laid.few, St.laid.rows)) in_rows cell-right
-        (omega (arith, St.laid.narrow, St.laid.columns))
+    uplevel-left narrow few q =
+        q.is
+        ∙ left_by d r c S (working St) (cell key class) R q.planning there-is spot_is.1 few in_rows cell-right narrow
         (raised-beyond d c r (cell key class) list (at d (rows_of (seen d c S))) (relation-is d St.sound-is r St.relation).keyed L.columns)
         ∙ seen-is

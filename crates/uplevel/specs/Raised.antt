@@ -10,27 +10,18 @@ use Rattle.model.specs.Tables.{Cell, rows_of, at}
 use Rattle.model.specs.Buffers.{holding, state_of}
 use Rattle.model.specs.Uplevel.{borrowed, raised, uplevelled}
 use Rattle.model.specs.Run.{left}
-use Rattle.cells.specs.Layout.{Row}
-use Rattle.cells.specs.Changed.{entity_place, listed_row, with_row, change_level}
+use Rattle.cells.specs.Changed.{listed_row, with_row, change_level}
+use Rattle.above.specs.declared.plan.Plan.{Plan}
 use Rattle.above.specs.Facts.{carried}
 use Rattle.change.specs.Facts.{sight, Answered}
 use Rattle.uplevel.specs.declared.made.News.{News}
-use Rattle.uplevel.specs.Raising.{later_tests, entity_tests, spot_of, plan_of}
+use Rattle.uplevel.specs.Raising.{later_tests, Planning}
 
 -- ---- what is known
 
--- row i is the entity's at c, or there is none and i is the number of rows
-abbrev pub Found : Description → ℕ → ℕ → ℕ → ℕ → ℕ → List ℕ → List ℕ → Type 0
-Found d r c key class i vs cs = Row d r (entity_place d vs cs r c key class) i
-
--- the new row has a place
-abbrev pub Roomy : Description → ℕ → ℕ → ℕ → List ℕ → List ℕ → Type 0
-Roomy d r c i vs cs = spot_of d r i (state_of d (holding vs cs) c).rows < row_count d r
-
--- nine values and nine classes, for a row that is in use where the entity was there
-abbrev pub Replacing : Description → ℕ → ℕ → ℕ → Bool → News → List ℕ → List ℕ → Type 0
-Replacing d r c i there news vs cs =
-    (length news.values ≡ 9) × (length news.classes ≡ 9) × (there ≡ true → ((state_of d (holding vs cs) c).rows r i 1).value ≢ 0)
+-- row i is in use where the entity was there
+abbrev pub Replacing : Description → ℕ → ℕ → ℕ → Bool → List ℕ → List ℕ → Type 0
+Replacing d r c i there vs cs = there ≡ true → ((state_of d (holding vs cs) c).rows r i 1).value ≢ 0
 
 -- ---- the new row
 
@@ -45,23 +36,14 @@ Makes d c r entity list k vs cs x = x ≡ raised d (at d (rows_of (sight d c vs 
 -- ---- the effect
 
 -- row i at c becomes the new row; above, where the entity was there, what differs from it becomes null
-abbrev pub Replaces : Description → ℕ → ℕ → ℕ → Bool → News → List ℕ → List ℕ → List ℕ → List ℕ → Type 0
-Replaces d r c i there news vs cs vs' cs' =
-    state_of d (holding vs' cs')
-    ≡ change_level c (with_row (column_count d r) r i (listed_row news.values news.classes)) (carried d c r (plan_of i there news) (state_of d (holding vs cs)))
-
--- one row is counted, and the tables are what the effect leaves
-abbrev pub Effects : Description → ℕ → ℕ → Cell → List ℕ → List ℕ → List ℕ → List ℕ → List ℕ → Answer → Type 0
-Effects d c r entity list vs cs vs' cs' a =
-    (a ≡ Ok 1) × (state_of d (holding vs' cs') ≡ left d c (some (uplevelled d c r entity list (rows_of (sight d c vs cs)))) (state_of d (holding vs cs)))
+pub record Replaces (d : Description) (r c i : ℕ) (there : Bool) (news : News) (vs cs vs' cs' : List ℕ) : Type 0 where
+  pub plan : Plan
+  pub planning : Planning i there news plan
+  pub is : state_of d (holding vs' cs')
+      ≡ change_level c (with_row (column_count d r) r i (listed_row news.values news.classes)) (carried d c r plan (state_of d (holding vs cs)))
 
 -- ---- the statement
 
 -- an entity that is there and is the only one is raised where the tests after that pass
 abbrev pub Raises : Description → ℕ → ℕ → Cell → List ℕ → List ℕ → List ℕ → List ℕ → List ℕ → Answer → Type 0
 Raises d c r entity list vs cs = Answered d c (later_tests d c r entity list (sight d c vs cs)) 1 (uplevelled d c r entity list (rows_of (sight d c vs cs))) vs cs
-
--- an entity that was looked for by a key and `class` is raised where it is there, is the only one, and those tests pass
-abbrev pub Admits : Description → ℕ → ℕ → ℕ → Cell → List ℕ → List ℕ → List ℕ → List ℕ → List ℕ → Answer → Type 0
-Admits d c r class entity list vs cs =
-    Answered d c (entity_tests d c r class entity list (sight d c vs cs)) 1 (uplevelled d c r entity list (rows_of (sight d c vs cs))) vs cs

@@ -1,7 +1,7 @@
 -- What UPLEVEL's own functions know and promise.
 -- Assumes nothing: these are definitions and statements.
-use Rattle.std.specs.Prelude.{◌≡◌, Bool, true, false, not, ◌&&◌, ◌||◌, List, [], ◌∷◌, ◌≢◌, ℕ, ◌<◌, eqb, ltb, leb, set, replicate, if◌then◌else◌}
-use Rattle.bounded.specs.Bounded.{count_below}
+use Rattle.std.specs.Prelude.{◌≡◌, Bool, true, false, not, ◌&&◌, ◌||◌, List, [], ◌∷◌, ◌≢◌, ℕ, ◌<◌, Option, Some, None, Result, Ok, Err, eqb, leb, length, get_or, set, replicate, if◌then◌else◌}
+use Rattle.bounded.specs.Bounded.{first_below, count_below, some_below}
 use Rattle.model.specs.declared.Description.{Description}
 use Rattle.model.specs.declared.Fault.{Fault}
 use Rattle.model.specs.declared.Fault.TheVariants as Faults
@@ -10,10 +10,11 @@ use Rattle.model.specs.Tables.{Cell, Tables, State, rows_of, same, used, at}
 use Rattle.model.specs.Listed.{each}
 use Rattle.model.specs.Effect.{Rows, agrees, lowest_empty, has_room}
 use Rattle.model.specs.Uplevel.{based, borrowed_names, raised}
-use Rattle.cells.specs.declared.layout.Part.{Part}
-use Rattle.cells.specs.Layout.{Laid}
+use Rattle.above.specs.declared.plan.Change.{Change}
+use Rattle.above.specs.declared.plan.Change.TheVariants as Changes
 use Rattle.above.specs.declared.plan.Plan.{Plan}
 use Rattle.uplevel.specs.declared.made.News.{News}
+use Rattle.uplevel.specs.declared.meant.Entity.{Entity}
 use Rattle.change.specs.Facts.{Filled}
 
 -- ---- what is known
@@ -25,24 +26,51 @@ pub record Listing (d : Description) (r c key : ℕ) (list : List ℕ) : Type 0 
   pub seen : each (λ k a. over d c a) list ≡ true
 
 -- a relation of a sound description, a level, the buffers' lengths, and such a list
-pub record Raising (d : Description) (r c : ℕ) (p : Part) (key : ℕ) (list : List ℕ) (m n : ℕ) : Type 0 where
+pub record Raising (d : Description) (r c key : ℕ) (list : List ℕ) (m n : ℕ) : Type 0 where
   pub sound-is : sound d ≡ true
   pub relation : is_relation d r ≡ true
   pub level : c < d.levels
-  pub laid : Laid d r p
   pub long : m ≡ total_of d
   pub wide : n ≡ total_of d
   pub lists : Listing d r c key list
 
--- ---- the tests
+-- ---- the key class
 
--- no key class is given, or the subject sees it
-unfoldable pub class_seen : Description → ℕ → ℕ → Bool
-class_seen d c class = eqb class 255 || over d c class
+-- the key class that is given: 255 says that none is
+unfoldable pub given_of : ℕ → Option ℕ
+given_of class = if eqb class 255 then None else Some class
+
+-- none is given, or the subject sees it
+unfoldable pub class_seen : Description → ℕ → Option ℕ → Bool
+class_seen d c None = true
+class_seen d c (Some class) = over d c class
 
 -- and every FROM level
-unfoldable pub levels_seen : Description → ℕ → ℕ → List ℕ → Bool
-levels_seen d c class list = class_seen d c class && each (λ k a. over d c a) list
+unfoldable pub levels_seen : Description → ℕ → Option ℕ → List ℕ → Bool
+levels_seen d c given list = class_seen d c given && each (λ k a. over d c a) list
+
+-- the one that is given, or the lowest with a base row that the subject sees
+unfoldable pub own_of : Description → ℕ → ℕ → ℕ → Option ℕ → Tables → Option ℕ
+own_of d c r key None T = some_below d.levels (first_below d.levels (based d c r key T))
+own_of d c r key (Some class) T = Some class
+
+-- none is given, and there are several
+unfoldable pub several_based : Description → ℕ → ℕ → ℕ → Option ℕ → Tables → Bool
+several_based d c r key None T = not (leb (count_below d.levels (based d c r key T)) 1)
+several_based d c r key (Some class) T = false
+
+-- the entity that is meant: it is there, and it is the only one
+unfoldable pub admitted : Description → ℕ → ℕ → ℕ → Option ℕ → Tables → Result Entity Fault
+admitted d c r key given T =
+    elim (own_of d c r key given T) [
+      | None ↦ Err Faults.Absent
+      | Some class ↦
+          if based d c r key T class
+          then (if several_based d c r key given T then Err Faults.Several else Ok (record { key = key; class = class }))
+          else Err Faults.Absent
+    ]
+
+-- ---- the tests
 
 -- the tests of an entity that is there and is the only one
 unfoldable pub later_tests : Description → ℕ → ℕ → Cell → List ℕ → State → List (Bool × Fault)
@@ -53,17 +81,6 @@ later_tests d c r entity list S =
     ∷ (borrowed_names d c r entity list T, Faults.Reference)
     ∷ (same (at d T r c entity.value 1) entity || has_room d (S c).rows r, Faults.Full)
     ∷ []
-
--- no key class is given, and there are several
-unfoldable pub several_based : Description → ℕ → ℕ → ℕ → ℕ → Tables → Bool
-several_based d c r key class T = eqb class 255 && not (leb (count_below d.levels (based d c r key T)) 1)
-
--- the tests of an entity that was looked for: whether it is there, whether it is the only one, and the others
-unfoldable pub entity_tests : Description → ℕ → ℕ → ℕ → Cell → List ℕ → State → List (Bool × Fault)
-entity_tests d c r class entity list S =
-    (based d c r entity.value (rows_of S) entity.class, Faults.Absent)
-    ∷ (not (several_based d c r entity.value class (rows_of S)), Faults.Several)
-    ∷ later_tests d c r entity list S
 
 -- ---- the new row
 
@@ -76,11 +93,18 @@ pub record Composed (d : Description) (c r : ℕ) (entity : Cell) (list : List �
   pub values : Filled (column_count d r) (λ k. (raised d (at d T) c r entity list k).value) news.values
   pub classes : Filled (column_count d r) (λ k. (raised d (at d T) c r entity list k).class) news.classes
 
--- its place, where the entity's row is row i or i is no row
-unfoldable pub spot_of : Description → ℕ → ℕ → Rows → ℕ
-spot_of d r i B = if ltb i (row_count d r) then i else lowest_empty d B r
+-- its place, where `here` is the entity's row, or none is
+unfoldable pub spot_of : Description → ℕ → Option ℕ → Rows → Option ℕ
+spot_of d r None B = some_below (row_count d r) (lowest_empty d B r)
+spot_of d r (Some i) B = Some i
 
--- what is done to the rows above: where a row was replaced, what differs from the new row becomes null
-unfoldable pub plan_of : ℕ → Bool → News → Plan
-plan_of row there news =
-    record { chosen = set (replicate 64 false) row there; gone = false; kinds = replicate 9 2; values = news.values; classes = news.classes }
+-- what becomes of cells above, by column: what differs from the new row becomes null
+pub record Nulling (news : News) (changes : List Change) : Type 0 where
+  pub long : length changes ≡ 9
+  pub only : (k : ℕ) → k < 9 → get_or changes k Changes.Keep ≡ Changes.Only (get_or news.values k 0) (get_or news.classes k 0)
+
+-- what is done to the rows above where a row was replaced
+pub record Planning (row : ℕ) (there : Bool) (news : News) (P : Plan) : Type 0 where
+  pub chosen : P.chosen ≡ set (replicate 64 false) row there
+  pub gone : P.gone ≡ false
+  pub changes : Nulling news P.changes

@@ -1,39 +1,34 @@
 // The effect: where the new row goes, and what becomes of the rows above.
 ghost use Rattle.std.specs.Prelude.{◌≡◌, false, length, set, replicate, ◌<◌};
 ghost use Rattle.model.specs.Description.{row_count};
-ghost use Rattle.model.specs.Tables.{cell};
 ghost use Rattle.model.specs.Buffers.{holding, state_of};
-ghost use Rattle.cells.specs.Layout.{Lent, InLevel, Row};
+ghost use Rattle.cells.specs.Layout.{Lent, InLevel};
 ghost use Rattle.change.specs.Facts.{Standing};
-ghost use Rattle.uplevel.specs.Raising.{Listing, spot_of};
-ghost use Rattle.uplevel.specs.Raised.{Found, Roomy, Replacing, Replaces, Effects};
+ghost use Rattle.uplevel.specs.Raising.{spot_of, Nulling};
+ghost use Rattle.uplevel.specs.Raised.{Replacing, Replaces};
 
-use crate::made::{News, compose};
+use crate::made::News;
 use above::above;
-use above::plan::Plan;
+use above::plan::{Change, Plan};
+use asked::table::Table;
 use cells::layout::Part;
-use cells::search::lowest;
-use cells::write::store;
-use model::{Answer, Description};
 
-// The entity's row, which is row `here`, or the lowest empty one.
+// The entity's row, which is `here`, or the lowest empty one.
 pub(crate) fn spot(
     values: &[u32],
     classes: &[u8],
-    description: Description,
-    relation: usize,
     part: Part,
     subject: usize,
-    here: usize,
-) -> usize
-    requires lent { Lent description relation part (length values.now) (length classes.now) }
-    requires in_level { InLevel description relation subject }
-    ensures { Row description relation (spot_of description relation here (state_of description (holding values.now classes.now) subject).rows) result }
+    here: Option<usize>,
+) -> Option<usize>
+    requires lent { Lent part.description (length values.now) (length classes.now) }
+    requires in_level { InLevel part.description part.relation subject }
+    ensures { result ≡ spot_of part.description part.relation here (state_of part.description (holding values.now classes.now) subject).rows }
 {
-    if here < part.rows {
+    if here.is_some() {
         return here;
     }
-    lowest(values, classes, description, relation, part, subject)
+    part.lowest(values, classes, subject)
 }
 
 // Only one row is chosen, or none.
@@ -46,99 +41,41 @@ fn choose(row: usize, on: bool) -> [bool; 64]
     chosen
 }
 
+// What becomes of the subject's cells above, by column: what differs from the new row becomes null.
+fn changes(news: News) -> [Change; 9]
+    ensures { Nulling news result }
+{
+    let mut changes = [Change::Keep; 9];
+    for column in 0..9 {
+        let value = news.values[column];
+        let class = news.classes[column];
+        changes[column] = Change::Only { value, class };
+    }
+    changes
+}
+
 // A row becomes the new row; above, where the entity was there, what differs from it becomes null.
-fn write(
+pub(crate) fn write(
     values: &mut [u32],
     classes: &mut [u8],
-    description: Description,
-    order: [[bool; 16]; 16],
-    relation: usize,
-    part: Part,
+    table: Table,
     subject: usize,
     row: usize,
     there: bool,
     news: News,
 )
-    requires standing { Standing description order relation subject part values.old classes.old × (row < row_count description relation) }
-    requires replacing { Replacing description relation subject row there news values.old classes.old }
-    ensures { Replaces description relation subject row there news values.old classes.old values.new classes.new }
+    requires standing { Standing table.part.description table.part.relation subject values.old classes.old × (row < row_count table.part.description table.part.relation) }
+    requires replacing { Replacing table.part.description table.part.relation subject row there values.old classes.old }
+    ensures { Replaces table.part.description table.part.relation subject row there news values.old classes.old values.new classes.new }
 {
     let chosen = choose(row, there);
-    let new = news.values;
-    let owners = news.classes;
+    let changes = changes(news);
     let plan = Plan {
-        chosen: chosen,
+        chosen,
         gone: false,
-        kinds: [2; 9],
-        values: new,
-        classes: owners,
+        changes,
     };
-    above(
-        values,
-        classes,
-        description,
-        order,
-        relation,
-        part,
-        plan,
-        subject,
-    );
-    store(
-        values,
-        classes,
-        description,
-        relation,
-        part,
-        subject,
-        row,
-        new,
-        owners,
-    );
-}
-
-// The new row replaces the entity's row, which is row `here`, or takes the lowest empty one, and is counted.
-pub(crate) fn place(
-    values: &mut [u32],
-    classes: &mut [u8],
-    list: &[u32],
-    description: Description,
-    order: [[bool; 16]; 16],
-    relation: usize,
-    part: Part,
-    subject: usize,
-    key: u32,
-    class: u8,
-    here: usize,
-) -> Answer
-    requires standing { Standing description order relation subject part values.old classes.old × Listing description relation subject key list.now }
-    requires found { Found description relation subject key class here values.old classes.old × Roomy description relation subject here values.old classes.old }
-    ensures { Effects description subject relation (cell key class) list.now values.old classes.old values.new classes.new result }
-{
-    let row = spot(values, classes, description, relation, part, subject, here);
-    let there = here < part.rows;
-    let news = compose(
-        values,
-        classes,
-        list,
-        description,
-        order,
-        relation,
-        part,
-        subject,
-        key,
-        class,
-    );
-    write(
-        values,
-        classes,
-        description,
-        order,
-        relation,
-        part,
-        subject,
-        row,
-        there,
-        news,
-    );
-    Answer::Done { count: 1 }
+    above(values, classes, table, plan, subject);
+    let part = table.part;
+    part.store(values, classes, subject, row, news.values, news.classes);
 }

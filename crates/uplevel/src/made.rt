@@ -7,10 +7,9 @@ ghost use Rattle.uplevel.specs.Raising.{Listing, Composed};
 ghost use Rattle.uplevel.specs.Raised.{Borrows, Makes};
 
 use crate::lenders::{lent, strays};
+use crate::meant::Entity;
 use asked::pairs::find;
-use asked::ranges::null;
-use cells::layout::Part;
-use model::Description;
+use asked::table::Table;
 
 // A cell that an UPLEVEL makes.
 #[derive(Clone, Copy)]
@@ -19,7 +18,7 @@ struct New {
     class: u8,
 }
 
-// A row that it makes, by column.
+// A row that it makes, by column, as the two lists that `store` takes.
 #[derive(Clone, Copy)]
 pub struct News {
     pub values: [u32; 9],
@@ -30,52 +29,24 @@ pub struct News {
 fn take(
     values: &[u32],
     classes: &[u8],
-    description: Description,
-    order: [[bool; 16]; 16],
-    relation: usize,
-    part: Part,
+    table: Table,
     subject: usize,
-    key: u32,
-    class: u8,
+    entity: Entity,
     column: usize,
     from: usize,
 ) -> New
-    requires standing { Standing description order relation subject part values.now classes.now × (is_column description relation column ≡ true) }
-    requires key_nonzero { (key ≢ 0) × (over_of description subject from ≡ true) }
-    ensures { Borrows description subject relation (cell key class) column from values.now classes.now (cell result.value result.class) }
+    requires standing { Standing table.part.description table.part.relation subject values.now classes.now × (is_column table.part.description table.part.relation column ≡ true) }
+    requires key_nonzero { (entity.key ≢ 0) × (over_of table.part.description subject from ≡ true) }
+    ensures { Borrows table.part.description subject table.part.relation (cell entity.key entity.class) column from values.now classes.now (cell result.value result.class) }
 {
-    let value = lent(
-        values,
-        classes,
-        description,
-        relation,
-        part,
-        from,
-        key,
-        class,
-        column,
-    );
-    if strays(
-        values,
-        classes,
-        description,
-        relation,
-        column,
-        subject,
-        from,
-        value,
-    ) {
-        let columns = part.columns;
-        let own = null(description, order, relation, columns, column, subject as u8);
-        return New {
-            value: 0,
-            class: own,
-        };
+    let part = table.part;
+    let value = lent(values, classes, part, from, entity, column);
+    if strays(values, classes, part, column, subject, from, value) {
+        let class = table.columns().null(column, subject as u8);
+        return New { value: 0, class };
     }
-    New {
-        value: value,
-        class: from as u8,
-    }
+    let class = from as u8;
+    New { value, class }
 }
 
 // A new cell: the key, what is borrowed, or own null.
@@ -83,48 +54,27 @@ fn borrow(
     values: &[u32],
     classes: &[u8],
     list: &[u32],
-    description: Description,
-    order: [[bool; 16]; 16],
-    relation: usize,
-    part: Part,
+    table: Table,
     subject: usize,
-    key: u32,
-    class: u8,
+    entity: Entity,
     column: usize,
 ) -> New
-    requires standing { Standing description order relation subject part values.now classes.now × (is_column description relation column ≡ true) }
-    requires listing { Listing description relation subject key list.now }
-    ensures { Makes description subject relation (cell key class) list.now column values.now classes.now (cell result.value result.class) }
+    requires standing { Standing table.part.description table.part.relation subject values.now classes.now × (is_column table.part.description table.part.relation column ≡ true) }
+    requires listing { Listing table.part.description table.part.relation subject entity.key list.now }
+    ensures { Makes table.part.description subject table.part.relation (cell entity.key entity.class) list.now column values.now classes.now (cell result.value result.class) }
 {
     if column == 1 {
         return New {
-            value: key,
-            class: class,
+            value: entity.key,
+            class: entity.class,
         };
     }
-    let at = find(list, column);
-    if list.len() / 2 <= at {
-        let columns = part.columns;
-        let own = null(description, order, relation, columns, column, subject as u8);
-        return New {
-            value: 0,
-            class: own,
-        };
-    }
+    let Some(at) = find(list, column) else {
+        let class = table.columns().null(column, subject as u8);
+        return New { value: 0, class };
+    };
     let from = list[2 * at + 1] as usize;
-    take(
-        values,
-        classes,
-        description,
-        order,
-        relation,
-        part,
-        subject,
-        key,
-        class,
-        column,
-        from,
-    )
+    take(values, classes, table, subject, entity, column, from)
 }
 
 // The new row.
@@ -132,37 +82,18 @@ pub(crate) fn compose(
     values: &[u32],
     classes: &[u8],
     list: &[u32],
-    description: Description,
-    order: [[bool; 16]; 16],
-    relation: usize,
-    part: Part,
+    table: Table,
     subject: usize,
-    key: u32,
-    class: u8,
+    entity: Entity,
 ) -> News
-    requires standing { Standing description order relation subject part values.now classes.now }
-    requires listing { Listing description relation subject key list.now }
-    ensures { Composed description subject relation (cell key class) list.now (rows_of (sight description subject values.now classes.now)) result }
+    requires standing { Standing table.part.description table.part.relation subject values.now classes.now }
+    requires listing { Listing table.part.description table.part.relation subject entity.key list.now }
+    ensures { Composed table.part.description subject table.part.relation (cell entity.key entity.class) list.now (rows_of (sight table.part.description subject values.now classes.now)) result }
 {
-    let mut news = [0u32; 9];
-    let mut owners = [255u8; 9];
-    let columns = part.columns;
-    let mut column = 0;
-    while column < columns {
-        column += 1;
-        let new = borrow(
-            values,
-            classes,
-            list,
-            description,
-            order,
-            relation,
-            part,
-            subject,
-            key,
-            class,
-            column,
-        );
+    let mut news = [0; 9];
+    let mut owners = [255; 9];
+    for column in 1..table.part.columns + 1 {
+        let new = borrow(values, classes, list, table, subject, entity, column);
         news[column] = new.value;
         owners[column] = new.class;
     }

@@ -1,181 +1,124 @@
 // Which entity is meant.
 ghost use Rattle.std.specs.Prelude.{◌≡◌, ◌≢◌};
-ghost use Rattle.bounded.specs.Bounded.{first_below, count_below};
+ghost use Rattle.bounded.specs.Bounded.{first_below, count_below, some_below};
 ghost use Rattle.model.specs.Tables.{rows_of};
-ghost use Rattle.model.specs.Uplevel.{based as based_of, entity_of};
+ghost use Rattle.model.specs.Uplevel.{based as based_of};
 ghost use Rattle.change.specs.Facts.{Standing, sight};
-ghost use Rattle.uplevel.specs.Raising.{several_based};
+ghost use Rattle.uplevel.specs.Raising.{own_of, several_based, admitted};
 
-use asked::ranges::over;
-use cells::layout::Part;
-use cells::search::entity;
-use model::Description;
+use asked::table::Table;
+use model::Fault;
 
-// Whether the entity with a key and a key class has a base row that the subject sees.
-pub(crate) fn based(
-    values: &[u32],
-    classes: &[u8],
-    description: Description,
-    order: [[bool; 16]; 16],
-    relation: usize,
-    part: Part,
-    subject: usize,
-    key: u32,
-    class: usize,
-) -> bool
-    requires standing { Standing description order relation subject part values.now classes.now }
-    requires key_nonzero { key ≢ 0 }
-    ensures { result ≡ based_of description subject relation key (rows_of (sight description subject values.now classes.now)) class }
-{
-    if !over(description, order, subject, class) {
-        return false;
-    }
-    let own = class as u8;
-    let row = entity(
-        values,
-        classes,
-        description,
-        relation,
-        part,
-        class,
-        key,
-        own,
-    );
-    row < part.rows
+// An entity: its key and its key class.
+#[derive(Clone, Copy)]
+pub struct Entity {
+    pub key: u32,
+    pub class: u8,
 }
 
-// The lowest key class with a base row that the subject sees, the number of levels where there is none.
-fn base(
-    values: &[u32],
-    classes: &[u8],
-    description: Description,
-    order: [[bool; 16]; 16],
-    relation: usize,
-    part: Part,
-    subject: usize,
-    key: u32,
-) -> usize
-    requires standing { Standing description order relation subject part values.now classes.now }
-    requires key_nonzero { key ≢ 0 }
-    ensures { result ≡ first_below description.levels (based_of description subject relation key (rows_of (sight description subject values.now classes.now))) }
+// Whether an entity has a base row that the subject sees.
+fn based(values: &[u32], classes: &[u8], table: Table, subject: usize, entity: Entity) -> bool
+    requires standing { Standing table.part.description table.part.relation subject values.now classes.now }
+    requires key_nonzero { entity.key ≢ 0 }
+    ensures { result ≡ based_of table.part.description subject table.part.relation entity.key (rows_of (sight table.part.description subject values.now classes.now)) entity.class }
 {
-    let levels = description.levels as usize;
-    let mut class = 0;
-    while class < levels {
-        if based(
-            values,
-            classes,
-            description,
-            order,
-            relation,
-            part,
-            subject,
-            key,
-            class,
-        ) {
-            return class;
-        }
-        class += 1;
+    let level = entity.class as usize;
+    if !table.levels().over(subject, level) {
+        return false;
     }
-    class
+    let part = table.part;
+    part.entity(values, classes, level, entity.key, entity.class)
+        .is_some()
+}
+
+// The lowest key class with a base row that the subject sees.
+fn base(values: &[u32], classes: &[u8], table: Table, subject: usize, key: u32) -> Option<u8>
+    requires standing { Standing table.part.description table.part.relation subject values.now classes.now }
+    requires key_nonzero { key ≢ 0 }
+    ensures { result ≡ some_below table.part.description.levels (first_below table.part.description.levels
+        (based_of table.part.description subject table.part.relation key (rows_of (sight table.part.description subject values.now classes.now)))) }
+{
+    let levels = table.part.description.levels as u8;
+    for class in 0..levels {
+        if based(values, classes, table, subject, Entity { key, class }) {
+            return Some(class);
+        }
+    }
+    None
 }
 
 // How many key classes there are with a base row that the subject sees.
-fn bases(
-    values: &[u32],
-    classes: &[u8],
-    description: Description,
-    order: [[bool; 16]; 16],
-    relation: usize,
-    part: Part,
-    subject: usize,
-    key: u32,
-) -> usize
-    requires standing { Standing description order relation subject part values.now classes.now }
+fn bases(values: &[u32], classes: &[u8], table: Table, subject: usize, key: u32) -> u8
+    requires standing { Standing table.part.description table.part.relation subject values.now classes.now }
     requires key_nonzero { key ≢ 0 }
-    ensures { result ≡ count_below description.levels (based_of description subject relation key (rows_of (sight description subject values.now classes.now))) }
+    ensures { result ≡ count_below table.part.description.levels
+        (based_of table.part.description subject table.part.relation key (rows_of (sight table.part.description subject values.now classes.now))) }
 {
-    let levels = description.levels as usize;
     let mut bases = 0;
-    let mut class = 0;
-    while class < levels {
-        if based(
-            values,
-            classes,
-            description,
-            order,
-            relation,
-            part,
-            subject,
-            key,
-            class,
-        ) {
+    let levels = table.part.description.levels as u8;
+    for class in 0..levels {
+        if based(values, classes, table, subject, Entity { key, class }) {
             bases += 1;
         }
-        class += 1;
     }
     bases
 }
 
 // The key class that is given, or the lowest with a base row that the subject sees.
-pub(crate) fn own(
+fn own(
     values: &[u32],
     classes: &[u8],
-    description: Description,
-    order: [[bool; 16]; 16],
-    relation: usize,
-    part: Part,
+    table: Table,
     subject: usize,
     key: u32,
-    class: usize,
-) -> usize
-    requires standing { Standing description order relation subject part values.now classes.now }
+    given: Option<u8>,
+) -> Option<u8>
+    requires standing { Standing table.part.description table.part.relation subject values.now classes.now }
     requires key_nonzero { key ≢ 0 }
-    ensures { result ≡ (entity_of description subject relation key class (rows_of (sight description subject values.now classes.now))).class }
+    ensures { result ≡ own_of table.part.description subject table.part.relation key given (rows_of (sight table.part.description subject values.now classes.now)) }
 {
-    if class != 255 {
-        return class;
+    if given.is_some() {
+        return given;
     }
-    base(
-        values,
-        classes,
-        description,
-        order,
-        relation,
-        part,
-        subject,
-        key,
-    )
+    base(values, classes, table, subject, key)
 }
 
 // Whether no key class is given and there are several.
-pub(crate) fn several(
+fn several(
     values: &[u32],
     classes: &[u8],
-    description: Description,
-    order: [[bool; 16]; 16],
-    relation: usize,
-    part: Part,
+    table: Table,
     subject: usize,
     key: u32,
-    class: usize,
+    given: Option<u8>,
 ) -> bool
-    requires standing { Standing description order relation subject part values.now classes.now }
+    requires standing { Standing table.part.description table.part.relation subject values.now classes.now }
     requires key_nonzero { key ≢ 0 }
-    ensures { result ≡ several_based description subject relation key class (rows_of (sight description subject values.now classes.now)) }
+    ensures { result ≡ several_based table.part.description subject table.part.relation key given (rows_of (sight table.part.description subject values.now classes.now)) }
 {
-    if class != 255 {
-        return false;
+    given.is_none() && 1 < bases(values, classes, table, subject, key)
+}
+
+// The entity with a key that is meant: there is one whose base row the subject sees, and where no key class is given only one.
+pub(crate) fn admit(
+    values: &[u32],
+    classes: &[u8],
+    table: Table,
+    subject: usize,
+    key: u32,
+    given: Option<u8>,
+) -> Result<Entity, Fault>
+    requires standing { Standing table.part.description table.part.relation subject values.now classes.now }
+    requires key_nonzero { key ≢ 0 }
+    ensures { result ≡ admitted table.part.description subject table.part.relation key given (rows_of (sight table.part.description subject values.now classes.now)) }
+{
+    let class = own(values, classes, table, subject, key, given).ok_or(Fault::Absent)?;
+    let entity = Entity { key, class };
+    if !based(values, classes, table, subject, entity) {
+        return Err(Fault::Absent);
     }
-    let bases = bases(
-        values,
-        classes,
-        description,
-        order,
-        relation,
-        part,
-        subject,
-        key,
-    );
-    1 < bases
+    if several(values, classes, table, subject, key, given) {
+        return Err(Fault::Several);
+    }
+    Ok(entity)
 }

@@ -1,130 +1,82 @@
 // The tests after the entity is known.
-ghost use Rattle.std.specs.Prelude.{◌≡◌, true, not, ◌&&◌, ltb, length};
-ghost use Rattle.model.specs.Description.{row_count, over as over_of};
+ghost use Rattle.std.specs.Prelude.{◌≡◌, not, ◌&&◌, ltb, length, is_some, take};
+ghost use Rattle.model.specs.Description.{row_count};
 ghost use Rattle.model.specs.Tables.{cell, rows_of};
 ghost use Rattle.model.specs.Uplevel.{borrowed_names};
-ghost use Rattle.model.specs.Run.{first_fault};
 ghost use Rattle.cells.specs.Layout.{Sized, InLevel, Row};
 ghost use Rattle.cells.specs.Changed.{key_place, entity_place};
 ghost use Rattle.change.specs.Facts.{Standing, sight};
-ghost use Rattle.change.specs.Tests.{test_of};
+ghost use Rattle.change.specs.Tests.{ended};
 ghost use Rattle.uplevel.specs.Raising.{Listing, Raising, later_tests};
 
-use crate::effect::spot;
 use crate::lenders::lent;
-use asked::pairs::{Rule, each, find};
+use crate::meant::Entity;
+use asked::pairs::{Rule, find};
+use asked::table::Table;
 use cells::layout::Part;
 use change::named::names;
-use change::tests::Test;
-use model::{Description, Fault};
+use model::Fault;
 
 // Whether a reference that is borrowed is null or has its row at the subject's level.
 fn borrowed(
     values: &[u32],
     classes: &[u8],
     list: &[u32],
-    description: Description,
-    relation: usize,
     part: Part,
     subject: usize,
-    key: u32,
-    class: u8,
+    entity: Entity,
 ) -> bool
-    requires { Raising description relation subject part key list.now (length values.now) (length classes.now) }
-    ensures { result ≡ borrowed_names description subject relation (cell key class) list.now (rows_of (sight description subject values.now classes.now)) }
+    requires { Raising part.description part.relation subject entity.key list.now (length values.now) (length classes.now) }
+    ensures { result ≡ borrowed_names part.description subject part.relation (cell entity.key entity.class) list.now (rows_of (sight part.description subject values.now classes.now)) }
 {
+    let description = part.description;
+    let relation = part.relation;
     let column = description.foreign[relation] as usize;
     if column == 0 {
         return true;
     }
-    let at = find(list, column);
-    if list.len() / 2 <= at {
+    let Some(at) = find(list, column) else {
         return true;
-    }
+    };
     let from = list[2 * at + 1] as usize;
-    let value = lent(
-        values,
-        classes,
-        description,
-        relation,
-        part,
-        from,
-        key,
-        class,
-        column,
-    );
+    let value = lent(values, classes, part, from, entity, column);
     names(values, description, relation, subject, value)
 }
 
-// Whether another entity has the key, where the entity's row is row `here`.
-fn taken(
-    values: &[u32],
-    description: Description,
-    relation: usize,
-    part: Part,
-    subject: usize,
-    key: u32,
-    here: usize,
-) -> bool
-    requires sized { Sized description relation part (length values.now) }
-    requires in_level { InLevel description relation subject }
-    ensures { result ≡ (not (ltb here (row_count description relation)) && ltb (key_place description values.now relation subject key) (row_count description relation)) }
+// Whether another entity has the key, where the entity's row is `here`.
+fn taken(values: &[u32], part: Part, subject: usize, key: u32, here: Option<usize>) -> bool
+    requires sized { Sized part.description (length values.now) }
+    requires in_level { InLevel part.description part.relation subject }
+    ensures { result ≡ (not (is_some here) && ltb (key_place part.description values.now part.relation subject key) (row_count part.description part.relation)) }
 {
-    let rows = part.rows;
-    if here < rows {
-        return false;
-    }
-    cells::search::find(values, description, relation, part, subject, key) < rows
+    here.is_none() && part.find(values, subject, key).is_some()
 }
 
-// The tests after the entity is known, in their order; its row at the subject's level is row `here`.
+// The tests after the entity is known, in their order, but for the last: whether there is a row. The entity's at the subject's level is `here`.
 pub(crate) fn check(
     values: &[u32],
     classes: &[u8],
     list: &[u32],
-    description: Description,
-    order: [[bool; 16]; 16],
-    relation: usize,
-    part: Part,
+    table: Table,
     subject: usize,
-    key: u32,
-    class: usize,
-    here: usize,
-) -> Test
-    requires standing { Standing description order relation subject part values.now classes.now × Listing description relation subject key list.now }
-    requires class_seen { (over_of description subject class ≡ true) × Row description relation (entity_place description values.now classes.now relation subject key class) here }
-    ensures { result ≡ test_of (first_fault (later_tests description subject relation (cell key class) list.now (sight description subject values.now classes.now))) }
+    entity: Entity,
+    here: Option<usize>,
+) -> Result<(), Fault>
+    requires standing { Standing table.part.description table.part.relation subject values.now classes.now }
+    requires listing { Listing table.part.description table.part.relation subject entity.key list.now }
+    requires found { Row table.part.description table.part.relation (entity_place table.part.description values.now classes.now table.part.relation subject entity.key entity.class) here }
+    ensures { result ≡ ended (take 3 (later_tests table.part.description subject table.part.relation (cell entity.key entity.class) list.now (sight table.part.description subject values.now classes.now))) }
 {
-    if taken(values, description, relation, part, subject, key, here) {
-        return Test::Failed(Fault::Taken);
+    let part = table.part;
+    if taken(values, part, subject, entity.key, here) {
+        return Err(Fault::Taken);
     }
-    let columns = part.columns;
-    if !each(
-        list,
-        description,
-        order,
-        relation,
-        columns,
-        Rule::Above { level: class },
-    ) {
-        return Test::Failed(Fault::KeyClass);
+    let level = entity.class as usize;
+    if !table.columns().each(list, Rule::Above { level }) {
+        return Err(Fault::KeyClass);
     }
-    if !borrowed(
-        values,
-        classes,
-        list,
-        description,
-        relation,
-        part,
-        subject,
-        key,
-        class as u8,
-    ) {
-        return Test::Failed(Fault::Reference);
+    if !borrowed(values, classes, list, part, subject, entity) {
+        return Err(Fault::Reference);
     }
-    let row = spot(values, classes, description, relation, part, subject, here);
-    if part.rows <= row {
-        return Test::Failed(Fault::Full);
-    }
-    Test::Passed
+    Ok(())
 }

@@ -1,8 +1,8 @@
-use Rattle.uplevel.proofs.Upfaults.{class-free, class-given}
+use Rattle.uplevel.proofs.Upfaults.{sees-class, sees-none}
 use Rattle.uplevel.proofs.sees.Goals as goal
 
-pub returns-then-class-eq255 : goal.returns-then-class-eq255
-returns-then-class-eq255 c = class-free _ _ _ c.if-class-eq255.true
+pub returns-in-Some : goal.returns-in-Some
+returns-in-Some c = sees-class _ _ c.in-Some.is c.over.ensures
 
-pub returns : goal.returns
-returns c = class-given _ _ _ c.if-class-eq255.false c.over.ensures
+pub returns-in-None : goal.returns-in-None
+returns-in-None c = sees-none _ _ c.in-None.is

@@ -1,25 +1,49 @@
-use Rattle.change.proofs.Known.{ordered, related}
-use Rattle.uplevel.proofs.Upformed.{formed-lists}
-use Rattle.uplevel.proofs.Upfaults.{from-sees, unseen-answer, range-answer, admitted-answer}
+use mathlib.Core.Path.{sym, ◌∙◌}
+use Rattle.std.proofs.lemmas.Result.{err_from_is_err_and}
+use Rattle.cells.proofs.Counts.{sound-says}
+use Rattle.uplevel.proofs.Upformed.{class-small, formed-key, formed-lists}
+use Rattle.uplevel.proofs.Upfaults.{from-sees, unseen-answer, range-answer, refused-answer, raised-answer, admits, based-over}
 use Rattle.uplevel.proofs.uplevel.Goals as goal
 
-pub seen-requires : goal.seen-requires
-seen-requires c = record { ordered = ordered c.requires.standing; related = related c.requires.standing }
+pub given-given-requires : goal.given-given-requires
+given-given-requires c = class-small _ _ _ _ _ c.requires.formed_list (sound-says _ c.requires.standing.sound-is).few-levels
 
 pub returns-then-not-seen : goal.returns-then-not-seen
-returns-then-not-seen c = unseen-answer _ _ _ _ _ _ _ _ c.seen.ensures c.if-not-seen.true
-
-pub each-requires : goal.each-requires
-each-requires c = record { ordered = ordered c.requires.standing; related = related c.requires.standing }
+returns-then-not-seen c = let k = c.columns-columns.ensures in
+    let x = rw (k.described, c.given-given.ensures) at c.seen.ensures in
+    unseen-answer _ _ _ _ _ _ _ _ x c.if-not-seen.true
 
 pub returns-then-not-each : goal.returns-then-not-each
-returns-then-not-each c = range-answer _ _ _ _ _ _ _ _ c.seen.ensures c.if-not-seen.false c.each.ensures c.if-not-each.true
-
-pub own-own-requires : goal.own-own-requires
-own-own-requires c = record { standing = c.requires.standing; key_nonzero = (formed-lists _ _ _ _ _ _ c.requires.formed_list (from-sees _ _ _ _ c.seen.ensures c.if-not-seen.false)).some_key }
+returns-then-not-each c = let k = c.columns-columns.ensures in
+    let x = rw (k.described, c.given-given.ensures) at c.seen.ensures in
+    let y = rw (k.described, k.of_relation) at c.each.ensures in
+    range-answer _ _ _ _ _ _ _ _ x c.if-not-seen.false y c.if-not-each.true
 
 pub admit-requires : goal.admit-requires
-admit-requires c = record { standing = c.requires.standing; listing = formed-lists _ _ _ _ _ _ c.requires.formed_list (from-sees _ _ _ _ c.seen.ensures c.if-not-seen.false) }
+admit-requires c = record { standing = c.requires.standing; key_nonzero = formed-key _ _ _ _ _ c.requires.formed_list }
+
+pub returns-in_err-entity : goal.returns-in_err-entity
+returns-in_err-entity c = let k = c.columns-columns.ensures in
+    let x = rw (k.described, c.given-given.ensures) at c.seen.ensures in
+    let y = rw (k.described, k.of_relation) at c.each.ensures in
+    let p = err_from_is_err_and c.from_residual.result c.from_residual.ensures.1 in
+    let e = rw (c.given-given.ensures) at c.in_err-entity.ensures in
+    rw (p.1, p.2) (refused-answer _ _ _ _ _ _ _ _ x c.if-not-seen.false y c.if-not-each.false c.requires.standing.sound-is e)
+
+pub raise-requires : goal.raise-requires
+raise-requires c = let k = c.columns-columns.ensures in
+    let x = rw (k.described, c.given-given.ensures) at c.seen.ensures in
+    let e = rw (c.given-given.ensures) at c.in_ok-entity.ensures in
+    let q = admits _ _ _ _ _ _ e in
+    record {
+      standing = c.requires.standing;
+      listing = rw (q.key-is) (formed-lists _ _ _ _ _ c.requires.formed_list _ (from-sees _ _ _ _ x c.if-not-seen.false));
+      class_seen = based-over _ _ _ _ _ _ q.there;
+    }
 
 pub returns : goal.returns
-returns c = admitted-answer _ _ _ _ _ _ _ _ c.seen.ensures c.if-not-seen.false c.each.ensures c.if-not-each.false c.own-own.ensures c.admit.ensures
+returns c = let k = c.columns-columns.ensures in
+    let x = rw (k.described, c.given-given.ensures) at c.seen.ensures in
+    let y = rw (k.described, k.of_relation) at c.each.ensures in
+    let e = rw (c.given-given.ensures) at c.in_ok-entity.ensures in
+    raised-answer _ _ _ _ _ _ _ _ x c.if-not-seen.false y c.if-not-each.false e c.raise.ensures

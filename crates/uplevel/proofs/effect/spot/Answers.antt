@@ -1,10 +1,9 @@
-use mathlib.Core.Path.{◌∙◌}
-use native.Mathlib.Omega.{arith}
+use mathlib.Core.Path.{sym, ◌∙◌}
 use Rattle.uplevel.proofs.Upfaults.{spot-there, spot-lowest}
 use Rattle.uplevel.proofs.effect.spot.Goals as goal
 
-pub returns-then-here-part : goal.returns-then-here-part
-returns-then-here-part c = record { is = spot-there _ _ _ _ (omega (arith, c.requires.lent.laid.rows, c.if-here-part.true)); most = omega (arith, c.requires.lent.laid.rows, c.if-here-part.true) }
+pub returns-then-is_some : goal.returns-then-is_some
+returns-then-is_some c = spot-there _ _ _ _ (sym c.is_some.ensures ∙ c.if-is_some.true)
 
 pub returns : goal.returns
-returns c = record { is = c.lowest.ensures.is ∙ spot-lowest _ _ _ _ (omega (arith, c.requires.lent.laid.rows, c.if-here-part.false)); most = c.lowest.ensures.most }
+returns c = spot-lowest _ _ _ _ (sym c.is_some.ensures ∙ c.if-is_some.false) c.lowest.ensures

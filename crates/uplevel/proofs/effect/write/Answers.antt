@@ -1,19 +1,29 @@
-use Rattle.uplevel.proofs.Uplevelled.{written}
-use mathlib.Core.Path.{◌∙◌}
 use native.Mathlib.Omega.{arith}
-use Rattle.uplevel.specs.Raising.{plan_of}
+use mathlib.Core.Path.{refl, ap, ◌∙◌}
+use Rattle.cells.specs.Changed.{change_level}
 use Rattle.change.proofs.Known.{lent, own-level}
 use Rattle.uplevel.proofs.Uplevelled.{working, planned}
 use Rattle.uplevel.proofs.effect.write.Goals as goal
 
-pub above-requires : goal.above-requires
-unfolding plan_of
-above-requires c = record { carrying = (lent c.requires.standing.0, working c.requires.standing.0); planned_in = rw c.choose-chosen.ensures (planned _ _ _ _ _ _ _ (omega (arith, c.requires.standing.0.laid.few, c.requires.standing.0.laid.rows, c.requires.standing.1)) c.requires.replacing.0 c.requires.replacing.1 c.requires.replacing.2) }
+pub choose-chosen-requires : goal.choose-chosen-requires
+choose-chosen-requires c = omega (arith, c.args.table.part.laid.few, c.args.table.part.laid.rows, c.requires.standing.1)
+
+pub above-requires-clause-carrying : goal.above-requires-clause-carrying
+above-requires-clause-carrying c = let s = c.requires.standing.0 in (lent s, working s)
+
+pub above-requires-clause-planned_in : goal.above-requires-clause-planned_in
+above-requires-clause-planned_in c =
+    planned (record { chosen = c.choose-chosen.ensures; gone = refl; changes = c.changes-changes.ensures }) _ _ _ _
+    (omega (arith, c.args.table.part.laid.few, c.args.table.part.laid.rows, c.requires.standing.1)) c.requires.replacing
 
 pub store-requires : goal.store-requires
-store-requires c = let k = c.above.auto in
-    let q = c.requires.standing.0 in
-    record { lent = record { laid = q.laid; values = k.values ∙ q.long; classes = k.classes ∙ q.wide }; in_row = record { level = own-level q; row = c.requires.standing.1 } }
+store-requires c = let s = c.requires.standing.0 in
+    let k = c.above.auto in
+    record { lent = record { values = k.values ∙ s.long; classes = k.classes ∙ s.wide }; in_row = record { level = own-level s; row = c.requires.standing.1 } }
 
 pub returns : goal.returns
-returns c = written _ _ _ _ _ _ _ _ c.choose-chosen.ensures c.above.ensures c.store.ensures
+returns c = record {
+  plan = _;
+  planning = record { chosen = c.choose-chosen.ensures; gone = refl; changes = c.changes-changes.ensures };
+  is = c.store.ensures ∙ ap (change_level _ _) c.above.ensures;
+}

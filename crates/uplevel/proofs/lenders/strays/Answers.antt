@@ -16,19 +16,19 @@ returns-then-column-description c = strays-other _ _ _ _ _ _ _ (foreign-is _ _ c
 pub returns-then-value-eq0 : goal.returns-then-value-eq0
 returns-then-value-eq0 c = strays-null _ _ _ _ _ _ _ (foreign-is _ _ c.requires.reaching.relation) c.if-column-description.false c.if-value-eq0.true
 
-pub offset_bounds-description-relation-2 : goal.offset_bounds-description-relation-2
-offset_bounds-description-relation-2 c = omega (arith, relation-few _ c.requires.reaching.sound-is _ c.requires.reaching.relation)
+pub lay-target-requires : goal.lay-target-requires
+lay-target-requires c = record { sound_description = c.requires.reaching.sound-is; known_relation = target-relation _ c.requires.reaching.sound-is _ c.requires.reaching.relation (λ z. c.requires.column_nonzero (c.if-column-description.false ∙ foreign-is _ _ c.requires.reaching.relation ∙ z)) }
 
-pub bounds-description-relation-2 : goal.bounds-description-relation-2
-bounds-description-relation-2 c = omega (arith, relation-few _ c.requires.reaching.sound-is _ c.requires.reaching.relation)
+pub agree-requires-clause-lent : goal.agree-requires-clause-lent
+agree-requires-clause-lent c = let q = c.requires.reaching in
+    rw (c.lay-target.ensures.described) (record { values = q.values; classes = q.classes }, c.if-value-eq0.false)
 
-pub lay-part-requires : goal.lay-part-requires
-lay-part-requires c = record { sound_description = c.requires.reaching.sound-is; known_relation = target-relation _ c.requires.reaching.sound-is _ c.requires.reaching.relation (λ z. c.requires.column_nonzero (c.if-column-description.false ∙ foreign-is _ _ c.requires.reaching.relation ∙ z)) }
-
-pub agree-requires : goal.agree-requires
-agree-requires c = let q = c.requires.reaching in
-    let t = target-relation _ q.sound-is _ q.relation (λ z. c.requires.column_nonzero (c.if-column-description.false ∙ foreign-is _ _ q.relation ∙ z)) in record { lent = (record { laid = c.lay-part.ensures; values = q.values; classes = q.classes }, c.if-value-eq0.false); in_level = (in-level _ q.sound-is _ t _ q.subject, in-level _ q.sound-is _ t _ q.level) }
+pub agree-requires-clause-in_level : goal.agree-requires-clause-in_level
+agree-requires-clause-in_level c = let q = c.requires.reaching in
+    let t = target-relation _ q.sound-is _ q.relation (λ z. c.requires.column_nonzero (c.if-column-description.false ∙ foreign-is _ _ q.relation ∙ z)) in
+    rw (c.lay-target.ensures.described, c.lay-target.ensures.of_relation) (in-level _ q.sound-is _ t _ q.subject, in-level _ q.sound-is _ t _ q.level)
 
 pub returns : goal.returns
 returns c = let q = c.requires.reaching in
-    strays-named _ _ _ _ _ _ _ (foreign-is _ _ q.relation) c.if-column-description.false c.if-value-eq0.false (refers-is _ _ q.relation) c.agree.ensures
+    let a = rw (c.lay-target.ensures.described, c.lay-target.ensures.of_relation) at c.agree.ensures in
+    strays-named _ _ _ _ _ _ _ (foreign-is _ _ q.relation) c.if-column-description.false c.if-value-eq0.false (refers-is _ _ q.relation) a

@@ -2,7 +2,7 @@ use native.Mathlib.Omega.{arith}
 use Rattle.bounded.proofs.Reflection.{of-true}
 use Rattle.model.proofs.Sound.{column-r}
 use Rattle.cells.proofs.Counts.{in-level, sound-says}
-use Rattle.change.proofs.Known.{ordered, related, own-over, lent}
+use Rattle.change.proofs.Known.{own-over, lent}
 use Rattle.uplevel.proofs.Entities.{level-few}
 use Rattle.uplevel.proofs.Borrowing.{taken-strayed, taken-lent}
 use Rattle.uplevel.proofs.made.take.Goals as goal
@@ -17,14 +17,12 @@ strays-requires c = let q = c.requires.standing.0 in record { reaching = record 
 pub overflow_cast-subject : goal.overflow_cast-subject
 overflow_cast-subject c = omega (arith, c.requires.standing.0.level, (sound-says _ c.requires.standing.0.sound-is).few-levels)
 
-pub null-own-requires : goal.null-own-requires
-null-own-requires c = record { ordered = ordered c.requires.standing.0; related = related c.requires.standing.0 }
-
 pub returns-then-strays : goal.returns-then-strays
-returns-then-strays c = taken-strayed _ _ _ _ _ _ _ (own-over c.requires.standing.0) c.requires.key_nonzero.1 c.lent-value.ensures c.strays.ensures c.if-strays.true c.null-own.ensures
+returns-then-strays c = let x = rw (c.columns.ensures.described, c.columns.ensures.of_relation) at c.null-class.ensures in
+    taken-strayed _ _ _ _ _ _ _ (own-over c.requires.standing.0) c.requires.key_nonzero.1 c.lent-value.ensures c.strays.ensures c.if-strays.true x
 
-pub overflow_cast-result : goal.overflow_cast-result
-overflow_cast-result c = omega (arith, (level-few _ c.requires.standing.0.sound-is _ _ c.requires.key_nonzero.1).1)
+pub overflow_cast-class : goal.overflow_cast-class
+overflow_cast-class c = omega (arith, (level-few _ c.requires.standing.0.sound-is _ _ c.requires.key_nonzero.1).1)
 
 pub returns : goal.returns
 returns c = taken-lent _ _ _ _ _ _ _ (own-over c.requires.standing.0) c.requires.key_nonzero.1 c.lent-value.ensures c.strays.ensures c.if-strays.false

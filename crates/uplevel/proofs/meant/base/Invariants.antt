@@ -1,4 +1,3 @@
-use Prim.Native.Nat.{◌≤◌, ◌-◌}
 use mathlib.Core.Path.{◌≡◌}
 use Rattle.bounded.specs.Bounded.{first_below}
 use Rattle.model.specs.Tables.{rows_of}
@@ -8,8 +7,4 @@ use Rattle.uplevel.proofs.meant.base.Given as goal
 
 abbrev pub invariant-loop-class : goal.invariant-loop-class
 invariant-loop-class l =
-    (l.class ≤ l.levels) × (first_below l.class (based_of l.description l.subject l.relation l.key (rows_of (sight l.description l.subject l.values l.classes))) ≡ l.class)
-
-abbrev pub decreases-loop-class : goal.decreases-loop-class
-decreases-loop-class l =
-    l.levels - l.class
+    first_below l.class (based_of l.table.part.description l.subject l.table.part.relation l.key (rows_of (sight l.table.part.description l.subject l.values l.classes))) ≡ l.class

@@ -1,13 +1,10 @@
-use Rattle.model.specs.Description.{row_count}
-use Prim.Native.Nat.{◌≤◌, ◌<◌}
-use native.Mathlib.Omega.{arith}
-use borrow.Author.Tests.{lt-ltb, le-ltb}
+use mathlib.Core.Path.{ap, ◌∙◌}
+use Rattle.std.specs.Prelude.{is_some}
+use Rattle.uplevel.proofs.Entities.{some-is}
 use Rattle.uplevel.proofs.tests.taken.Goals as goal
 
-pub returns-then-here-rows : goal.returns-then-here-rows
-returns-then-here-rows c = let h : c.args.here < row_count c.args.description c.args.relation = omega (arith, c.requires.sized.laid.rows, c.if-here-rows.true) in
-    rw (lt-ltb _ _ h)
+pub returns-then-is_none : goal.returns-then-is_none
+returns-then-is_none c = let n = c.if-is_none.ensures in rw n (c.is_some.ensures ∙ (ap is_some c.find.ensures ∙ some-is _ _))
 
-pub returns : goal.returns
-returns c = let h : row_count c.args.description c.args.relation ≤ c.args.here = omega (arith, c.requires.sized.laid.rows, c.if-here-rows.false) in
-    rw (le-ltb _ _ h, c.requires.sized.laid.rows, c.find.ensures.is)
+pub returns-else-is_none : goal.returns-else-is_none
+returns-else-is_none c = let n = c.if-is_none.ensures in rw (c.if-is_none.false, n)
