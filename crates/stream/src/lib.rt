@@ -99,7 +99,6 @@ fn row(
 }
 
 // How many columns a relation has; none where it doesn't exist.
-#[tactic(auto, unfolding(model::specs::Description::column_count, model::specs::Description::of_relation, model::specs::Description::is_relation, model::specs::Description::between,))]
 fn columns(description: Description, relation: u16) -> u16
     ensures { result ≡ column_count description relation }
 {
@@ -110,8 +109,8 @@ fn columns(description: Description, relation: u16) -> u16
     columns.get(relation as usize).copied().unwrap_or(0)
 }
 
-// The statement is run on the tables, and answered; answers how many bytes are printed. Whether the description breaks a rule is left to `run`, which lays out the order: it is then
-// refused, whatever part of the room is handed in.
+// The statement is run on the tables, and answered: how many bytes are printed. Whether the description breaks a rule is left to `run`, which lays
+// out the order: it is then refused, whatever part of the room is handed in.
 fn answer(
     list: &[u32],
     conditions: &[u32],
