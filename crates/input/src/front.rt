@@ -5,17 +5,16 @@ ghost use Rattle.input.specs.Front.{wanted as wanted_of, front};
 use records::bytes::pair;
 
 // How many bytes are needed to judge the record at the front: those that its header says; its header alone where that is cut or says too many.
+#[tactic(auto, unfolding(crate::specs::Front::wanted))]
 pub fn wanted(bytes: &[u8]) -> usize
     ensures { result ≡ wanted_of bytes.now }
 {
-    if bytes.len() < 4 {
-        return 4;
-    }
     let body = pair(bytes, 0) as usize;
-    if 1024 < body {
-        return 4;
+    if bytes.len() < 4 || 1024 < body {
+        4
+    } else {
+        4 + body
     }
-    4 + body
 }
 
 // The record at the front is there whole, or is known to be refused.
@@ -26,12 +25,9 @@ pub fn ready(bytes: &[u8]) -> bool
 }
 
 // How many bytes of the record at the front are there.
+#[tactic(auto, unfolding(crate::specs::Front::front))]
 pub fn size(bytes: &[u8]) -> usize
     ensures { result ≡ length (front bytes.now) }
 {
-    let wanted = wanted(bytes);
-    if bytes.len() < wanted {
-        return bytes.len();
-    }
-    wanted
+    wanted(bytes).min(bytes.len())
 }

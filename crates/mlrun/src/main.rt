@@ -11,12 +11,11 @@ ghost use Rattle.std.specs.Prelude.{◌≡◌, ◌≤◌, length};
 ghost use Rattle.mlrun.specs.Within.{Within};
 
 use input::front;
-use model::Description;
 use reading::{fill, size};
 use records::descriptions::nothing;
 use std::io::{Eprint, Read, Write};
 use std::time::Clock;
-use stream::step;
+use stream::{Kept, step};
 use writing::{drain, left, put};
 
 // Where the run stands: what is there of the input, what waits to be written, and what is kept from record to record.
@@ -25,16 +24,8 @@ struct State {
     from: usize,
     to: usize,
     waiting: usize,
-    goes: bool,
-    last: u16,
-    description: Description,
-}
-
-// The lesser of two.
-fn least(a: usize, b: usize) -> usize
-    ensures { (result ≤ a) × (result ≤ b) }
-{
-    if a < b { a } else { b }
+    // none where no other record is read
+    kept: Option<Kept>,
 }
 
 // The record takes its step; what it prints waits behind what is waiting.
@@ -44,46 +35,30 @@ fn take(
     classes: &mut [u8],
     output: &mut [u8],
     state: State,
+    kept: Kept,
     number: u64,
 ) -> State
     requires { state.waiting ≤ length output.old }
     ensures { (result.from ≡ state.from) × (result.to ≡ state.to) × (result.waiting ≤ length output.old) }
 {
     let waiting = state.waiting;
-    let description = state.description;
-    let stepped = step(
-        bytes,
-        values,
-        classes,
-        &mut output[waiting..],
-        description,
-        state.last,
-        number,
-    );
-    let printed = least(stepped.printed, output.len() - waiting);
-    let description = stepped.description;
+    let stepped = step(bytes, values, classes, &mut output[waiting..], kept, number);
     State {
-        from: state.from,
-        to: state.to,
-        waiting: waiting + printed,
-        goes: stepped.goes,
-        last: stepped.last,
-        description,
+        waiting: waiting + stepped.printed.min(output.len() - waiting),
+        kept: stepped.kept,
+        ..state
     }
 }
 
 // The run ends here, with nothing left to write.
-fn stopped(state: State) -> State
+fn stopped() -> State
     ensures { (result.from ≡ 0) × (result.to ≡ 0) × (result.waiting ≡ 0) }
 {
-    let description = state.description;
     State {
         from: 0,
         to: 0,
         waiting: 0,
-        goes: false,
-        last: state.last,
-        description,
+        kept: None,
     }
 }
 
@@ -102,28 +77,28 @@ fn next(
     requires { Within state (length input.old) (length output.old) }
     ensures { Within result (length input.old) (length output.old) }
 {
+    let Some(kept) = state.kept else {
+        return state;
+    };
     let from = state.from;
     let to = state.to;
     let ready = front::ready(&input[from..to]);
     let waiting = left(state.waiting, ready);
     if !drain(rt, stdout, output, state.waiting, waiting) {
-        return stopped(state);
+        return stopped();
     }
     let window = fill(rt, stdin, input, from, to, ready);
     if !window.good {
-        return stopped(state);
+        return stopped();
     }
     let from = window.from;
     let to = window.to;
     let size = size(input, from, to);
-    let description = state.description;
     let after = State {
         from: from + size,
         to,
         waiting,
-        goes: false,
-        last: state.last,
-        description,
+        kept: None,
     };
     if size == 0 {
         return after;
@@ -134,6 +109,7 @@ fn next(
         classes,
         output,
         after,
+        kept,
         number,
     )
 }
@@ -150,27 +126,24 @@ fn run(
 )
     requires { (1028 ≤ length input.old) × (131072 ≤ length output.old) }
 {
-    let description = nothing();
     let mut state = State {
         from: 0,
         to: 0,
         waiting: 0,
-        goes: true,
-        last: 0,
-        description,
+        kept: Some(Kept {
+            last: None,
+            description: nothing(),
+        }),
     };
-    let mut number = 1u64;
-    while number < u64::MAX {
-        if !state.goes {
+    for number in 1..u64::MAX {
+        if state.kept.is_none() {
             break;
         }
         state = next(
             rt, stdin, stdout, input, values, classes, output, state, number,
         );
-        number += 1;
     }
-    let waiting = state.waiting;
-    put(rt, stdout, output, waiting);
+    put(rt, stdout, output, state.waiting);
 }
 
 fn main(rt: HostRuntime) {

@@ -1,4 +1,3 @@
-pub mod Counted
 pub mod Parts
 pub mod Settled
 pub mod Turns

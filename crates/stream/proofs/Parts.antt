@@ -5,10 +5,9 @@ use mathlib.Core.Path.{◌≡◌, refl, sym, ◌∙◌}
 use mathlib.Core.List.{List}
 use native.Mathlib.Omega.{arith}
 use lib.Dec.{leb}
-use lib.ListN.{length, take, drop, length-append, drop_of_length-le}
-use lib.Seq.{take_all, take-append_seam}
+use lib.ListN.{length, take, drop, drop_of_length-le}
+use lib.Seq.{take_all}
 use borrow.Author.Tests.{leb-true, leb-false}
-use Rattle.bounded.specs.Lists.{write_at}
 use Rattle.bounded.proofs.Cases.{cases}
 
 least-cases : (P : ℕ → Type 0) (n m : ℕ) → P n → (m ≤ n → P m) → P (min n m)
@@ -27,11 +26,3 @@ module _ {A : Type 0} where
   drop-least n l =
       least-cases (λ m. drop m l ≡ drop n l) n (length l) refl
       (λ h. let k : length l ≤ length l = omega arith in drop_of_length-le l k ∙ sym (drop_of_length-le l h))
-
-  pub take-written : {n : ℕ} {read numbers lent' : List A} (lent : List A) → lent' ≡ write_at 0 read lent → read ≡ numbers → n ≡ length numbers → take n lent' ≡ numbers
-  unfolding write_at
-  take-written {n} {read} {numbers} lent p q e = rw (p, q, e) (take-append_seam numbers _)
-
-  pub room-written : {n : ℕ} {read numbers lent' : List A} (lent : List A) → lent' ≡ write_at 0 read lent → read ≡ numbers → n ≡ length numbers → n ≤ length lent'
-  unfolding write_at
-  room-written {n} {read} {numbers} lent p q e = rw (p, q, e) (simp length-append (omega arith))

@@ -18,13 +18,13 @@ pub record One (x y : Stepped) (values values' classes classes' text text' : Lis
 one-took : {t : Turn} {before values values' classes classes' text text' : List ℕ} {x y : Stepped}
     → Took t before values classes text x → Took t before values' classes' text' y → One x y values values' classes classes' text text'
 one-took p q =
-    let h = p.held-is ∙ sym q.held-is in
-    let g = p.goes-is ∙ sym q.goes-is in
+    let k = p.kept-is ∙ sym q.kept-is in
     let n = p.text-is.next-is ∙ sym q.text-is.next-is in
+    let room = p.room-is ∙ sym q.room-is in
     record {
-      answer-is = λ i. record { goes = g i; printed = n i; last = (h i).last; description = (h i).description };
-      values-is = ap (λ k. k.room.tables.values) h;
-      classes-is = ap (λ k. k.room.tables.classes) h;
+      answer-is = λ i. record { printed = n i; kept = k i };
+      values-is = ap (λ l. l.tables.values) room;
+      classes-is = ap (λ l. l.tables.classes) room;
       text-is = p.text-is.is ∙ sym q.text-is.is;
     }
 

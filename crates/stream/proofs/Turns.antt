@@ -1,8 +1,8 @@
 -- What a record leaves, case by case, from the facts that the functions have.
 -- Assumes nothing.
-use Rattle.std.specs.Prelude.{Ok, Err}
+use Rattle.std.specs.Prelude.{Option, Some, None}
 use Rattle.model.specs.Answers.{Answer}
-use Prim.Native.Nat.{ℕ, ◌<◌, ◌≤◌, min}
+use Prim.Native.Nat.{ℕ, ◌<◌, min}
 use mathlib.Core.Path.{◌≡◌, refl, sym, ap, subst, ◌∙◌}
 use mathlib.Core.Bool.{Bool, true, false}
 use mathlib.Core.List.{List, ◌++◌}
@@ -19,11 +19,10 @@ use Rattle.model.specs.Ledger.{lending}
 use Rattle.model.specs.Run.{Request, Outcome, run}
 use Rattle.theory.proofs.Calls.{run-refused}
 use Rattle.records.specs.declared.Read.{Read}
-use Rattle.records.specs.declared.Read.TheVariants as Reads
 use Rattle.records.specs.Record.{kind_after}
-use Rattle.records.specs.Statements.{statement_of, read_of, list_of, conditions_of, list_read, conditions_read, is_statement}
+use Rattle.records.specs.Statements.{statement_of, read_of, is_statement}
 use Rattle.records.specs.Descriptions.{is_labels, labelled, is_related, related}
-use Rattle.records.specs.Facts.{Reading}
+use Rattle.records.proofs.Outcomes.{Holds}
 use Rattle.placing.specs.Placing.{placeable, placed, Places}
 use Rattle.lines.specs.Lines.{answer_text}
 use Rattle.lines.specs.Written.{Wrote, written}
@@ -31,20 +30,17 @@ use Rattle.register.specs.Calls.{request, outcome}
 use Rattle.register.proofs.Outcomes.{unsound-refused}
 use Rattle.stream.specs.declared.Stepped.{Stepped}
 use Rattle.stream.specs.Step.{Turn, extent_of, lent, keeping, describing, refuses, silent, labels_turn, relation_turn, row_turn, call, answered, statement_turn, turn_of, step}
-use Rattle.stream.specs.Facts.{holds, Took}
-use Rattle.stream.proofs.Parts.{take-least, drop-least, take-written, room-written}
+use Rattle.stream.specs.Facts.{holds, taken_of, Took}
+use Rattle.stream.proofs.Parts.{take-least, drop-least}
 
 pub took-as : {t u : Turn} {text values classes text' : List ℕ} {r : Stepped} → t ≡ u → Took u text values classes text' r → Took t text values classes text' r
 took-as p x = rw p x
 
-abbrev pub stepped : Bool → ℕ → ℕ → Description → Stepped
-stepped goes printed last d = record { goes = goes; printed = printed; last = last; description = d }
-
 -- nothing is printed
-pub quiet : {t : Turn} (last : ℕ) (d : Description) (values classes text : List ℕ) → t ≡ silent (holds last d values classes) → Took t text values classes text (stepped true 0 last d)
+pub quiet : {t : Turn} (kind : ℕ) (d : Description) (values classes text : List ℕ) {r : Stepped} → r ≡ taken_of 0 kind d → t ≡ silent (holds (Some kind) d values classes) → Took t text values classes text r
 unfolding silent written
-quiet last d values classes text p =
-    rw p (record { held-is = refl; goes-is = refl; text-is = record { is = refl; next-is = refl } })
+quiet kind d values classes text e p =
+    rw (e, p) (record { kept-is = refl; room-is = refl; text-is = record { is = refl; next-is = refl } })
 
 -- ---- how many cells there are
 
@@ -54,12 +50,12 @@ all-cells d s = rw s
 
 -- ---- records of kind 1 and 2
 
-module _ (last : ℕ) (d : Description) (values classes : List ℕ) (number : ℕ) (bytes : List ℕ) where
+module _ (last : Option ℕ) (d : Description) (values classes : List ℕ) (number : ℕ) (bytes : List ℕ) where
   pub labels-refused : is_labels bytes ≡ false → labels_turn (holds last d values classes) number bytes ≡ refuses (holds last d values classes) number
   unfolding labels_turn
   labels-refused p = rw p
 
-  pub labels-taken : {d' : Description} → is_labels bytes ≡ true → d' ≡ labelled d bytes → labels_turn (holds last d values classes) number bytes ≡ silent (holds 1 d' values classes)
+  pub labels-taken : {d' : Description} → is_labels bytes ≡ true → d' ≡ labelled d bytes → labels_turn (holds last d values classes) number bytes ≡ silent (holds (Some 1) d' values classes)
   unfolding labels_turn describing
   labels-taken p e = rw (p, e)
 
@@ -67,7 +63,7 @@ module _ (last : ℕ) (d : Description) (values classes : List ℕ) (number : �
   unfolding relation_turn
   relation-refused p = rw p
 
-  pub relation-taken : {d' : Description} → is_related bytes ≡ true → d' ≡ related d bytes → relation_turn (holds last d values classes) number bytes ≡ silent (holds 2 d' values classes)
+  pub relation-taken : {d' : Description} → is_related bytes ≡ true → d' ≡ related d bytes → relation_turn (holds last d values classes) number bytes ≡ silent (holds (Some 2) d' values classes)
   unfolding relation_turn describing
   relation-taken p e = rw (p, e)
 
@@ -89,7 +85,7 @@ placed-sound : (d : Description) (b : Buffers) (bytes : List ℕ) → placeable 
 unfolding placeable
 placed-sound d b bytes t = and_left (sound d) _ t
 
-module _ (last : ℕ) (d : Description) (values classes : List ℕ) (number : ℕ) (bytes : List ℕ) where
+module _ (last : Option ℕ) (d : Description) (values classes : List ℕ) (number : ℕ) (bytes : List ℕ) where
   row-unplaced : placeable d (lent (holds last d values classes)).tables bytes ≡ false → row_turn (holds last d values classes) number bytes ≡ refuses (holds last d values classes) number
   unfolding row_turn
   row-unplaced p = rw p
@@ -128,7 +124,7 @@ module _ (last : ℕ) (d : Description) (values classes : List ℕ) (number : �
         let w : classes' ++ drop extent classes ≡ classes = ap (λ b. b.classes ++ drop extent classes) u ∙ take-append-drop extent classes in
         row-unplaced (unplaced f) ∙ sym (ap (λ x. refuses (holds last d x (classes' ++ drop extent classes)) number) v ∙ ap (λ y. refuses (holds last d values y) number) w)
 
-    pub row-taken : done ≡ true → row_turn (holds last d values classes) number bytes ≡ silent (holds 3 d (values' ++ drop extent values) (classes' ++ drop extent classes))
+    pub row-taken : done ≡ true → row_turn (holds last d values classes) number bytes ≡ silent (holds (Some 3) d (values' ++ drop extent values) (classes' ++ drop extent classes))
     unfolding row_turn keeping
     row-taken t =
         let s = placed-sound d _ bytes (sym k.done-is ∙ t) in
@@ -136,20 +132,20 @@ module _ (last : ℕ) (d : Description) (values classes : List ℕ) (number : �
 
 -- ---- a statement
 
-module _ (d : Description) (values classes : List ℕ) (kind : ℕ) (statement : Statement) where
+module _ (last : Option ℕ) (d : Description) (values classes : List ℕ) (kind : ℕ) (statement : Statement) where
   answered-took : {o : Outcome} {values' classes' shown' owners' text text' : List ℕ} {answer : Answer} {printed : ℕ}
       → outcome answer values' classes' shown' owners' ≡ o
       → Wrote 0 (answer_text statement.what answer (column_count d statement.relation) shown' owners') text text' printed
-      → Took (answered (holds 0 d values classes) kind statement o) text (values' ++ drop (extent_of d) values) (classes' ++ drop (extent_of d) classes) text' (stepped true printed kind d)
+      → Took (answered (holds last d values classes) kind statement o) text (values' ++ drop (extent_of d) values) (classes' ++ drop (extent_of d) classes) text' (taken_of printed kind d)
   unfolding answered keeping
-  answered-took p w = rw (← p) (record { held-is = refl; goes-is = refl; text-is = w })
+  answered-took p w = rw (← p) (record { kept-is = refl; room-is = refl; text-is = w })
 
   -- where the description breaks a rule, the register leaves what it is handed, whatever part of the room that is
   answered-unsound : (q : Request) (a b : ℕ) {printed : ℕ} {values' classes' shown' owners' text text' : List ℕ} {answer : Answer}
       → sound d ≡ false
       → outcome answer values' classes' shown' owners' ≡ run d (lending (holding (take a values) (take b classes))) q
       → Wrote 0 (answer_text statement.what answer (column_count d statement.relation) shown' owners') text text' printed
-      → Took (answered (holds 0 d values classes) kind statement (run d (lent (holds 0 d values classes)) q)) text (values' ++ drop a values) (classes' ++ drop b classes) text' (stepped true printed kind d)
+      → Took (answered (holds last d values classes) kind statement (run d (lent (holds last d values classes)) q)) text (values' ++ drop a values) (classes' ++ drop b classes) text' (taken_of printed kind d)
   unfolding answered keeping lent
   answered-unsound q a b {printed} {text = text} {text' = text'} s r w =
       let k = r ∙ run-refused d _ q (unsound-refused d _ q s) in
@@ -158,8 +154,8 @@ module _ (d : Description) (values classes : List ℕ) (kind : ℕ) (statement :
       let u = ap (λ o. o.ledger.tables.classes ++ drop b classes) k ∙ take-append-drop b classes ∙ sym (take-append-drop n classes) in
       rw (run-refused d (lending (holding (take n values) (take n classes))) q (unsound-refused d _ q s))
       (record {
-        held-is = λ i. holds kind d (v i) (u i);
-        goes-is = refl;
+        kept-is = refl;
+        room-is = λ i. lending (holding (v i) (u i));
         text-is = subst (λ x. Wrote 0 (answer_text statement.what x.answer (column_count d statement.relation) x.shown x.owners) text text' printed) (ap (λ o. o.reply) k) w;
       })
 
@@ -168,7 +164,7 @@ module _ (d : Description) (values classes : List ℕ) (kind : ℕ) (statement :
       → outcome answer values' classes' shown' owners' ≡ run d (lending (holding (take a values) (take b classes))) q
       → columns ≡ column_count d statement.relation
       → Wrote 0 (answer_text statement.what answer columns shown' owners') text text' printed
-      → Took (answered (holds 0 d values classes) kind statement (run d (lent (holds 0 d values classes)) q)) text (values' ++ drop a values) (classes' ++ drop b classes) text' (stepped true printed kind d)
+      → Took (answered (holds last d values classes) kind statement (run d (lent (holds last d values classes)) q)) text (values' ++ drop a values) (classes' ++ drop b classes) text' (taken_of printed kind d)
   unfolding lent
   answer-took q {extent} {a} {b} e p s r c w =
       cases (sound d)
@@ -183,101 +179,46 @@ module _ (d : Description) (values classes : List ℕ) (kind : ℕ) (statement :
       rw (da, db) (answered-took (rw (ta, tb) at r) (rw c at w)))
       (λ h. answered-unsound q a b h r (rw c at w))
 
-module _ (number : ℕ) (bytes : List ℕ) where
-  read-statement : is_statement bytes ≡ true → read_of bytes number ≡ Reads.Statement (statement_of bytes) (length (list_of bytes)) (length (conditions_of bytes))
-  unfolding read_of
-  read-statement s = rw s
-
-  read-refused : is_statement bytes ≡ false → read_of bytes number ≡ Reads.Refused number
-  unfolding read_of
-  read-refused s = rw s
-
-  no-statement : {r : Read} (place : ℕ) → r ≡ read_of bytes number → r ≡ Reads.Refused place → is_statement bytes ≡ false
-  no-statement place p q = cases (is_statement bytes) (λ s. let k = read-statement s in cc) (λ s. s)
-
-  pub record Stated (statement : Statement) (listed tested : ℕ) : Type 0 where
-    pub is : is_statement bytes ≡ true
-    pub statement-is : statement ≡ statement_of bytes
-    pub listed-is : listed ≡ length (list_of bytes)
-    pub tested-is : tested ≡ length (conditions_of bytes)
-
-  stated : {r : Read} {statement : Statement} {listed tested : ℕ} → r ≡ read_of bytes number → r ≡ Reads.Statement statement listed tested → Stated statement listed tested
-  stated p q =
-      let s : is_statement bytes ≡ true = cases (is_statement bytes) (λ s. s) (λ s. let k = read-refused s in cc) in
-      let k = read-statement s in
-      record { is = s; statement-is = cc; listed-is = cc; tested-is = cc }
-
-  list_all : is_statement bytes ≡ true → list_read bytes ≡ list_of bytes
-  unfolding list_read
-  list_all s = rw s
-
-  conditions-all : is_statement bytes ≡ true → conditions_read bytes ≡ conditions_of bytes
-  unfolding conditions_read
-  conditions-all s = rw s
-
-  module _ {list list' conditions conditions' : List ℕ} {r : Read} {statement : Statement} {listed tested : ℕ} (k : Reading bytes number list list' conditions conditions' r) (q : r ≡ Reads.Statement statement listed tested) where
-    pub few-listed : listed ≤ length list'
-    few-listed = let z = stated k.answer-is q in room-written list k.list-is (list_all z.is) z.listed-is
-
-    pub few-tested : tested ≤ length conditions'
-    few-tested = let z = stated k.answer-is q in room-written conditions k.conditions-is (conditions-all z.is) z.tested-is
-
-  same-call : {statement : Statement} {list conditions : List ℕ} → statement ≡ statement_of bytes → list ≡ list_of bytes → conditions ≡ conditions_of bytes
-      → call (statement_of bytes) bytes ≡ request statement list conditions (replicate 8192 0) (replicate 9216 0)
-  unfolding call
-  same-call p q r = rw (p, q, r)
-
-module _ (last : ℕ) (d : Description) (values classes : List ℕ) (kind number : ℕ) (bytes : List ℕ) where
-  pub statement-refused : {r : Read} (place : ℕ) → r ≡ read_of bytes number → r ≡ Reads.Refused place → statement_turn (holds last d values classes) kind number bytes ≡ refuses (holds last d values classes) number
-  unfolding statement_turn
-  statement-refused place p q = rw (read-refused number bytes (no-statement number bytes place p q), statement_turn)
+module _ (last : Option ℕ) (d : Description) (values classes : List ℕ) (kind number : ℕ) (bytes : List ℕ) where
+  pub statement-refused : is_statement bytes ≡ false → statement_turn (holds last d values classes) kind number bytes ≡ refuses (holds last d values classes) number
+  unfolding statement_turn read_of
+  statement-refused s = rw (s, statement_turn)
 
   statement-run : is_statement bytes ≡ true → statement_turn (holds last d values classes) kind number bytes
       ≡ answered (holds last d values classes) kind (statement_of bytes) (run d (lent (holds last d values classes)) (call (statement_of bytes) bytes))
-  unfolding statement_turn
-  statement-run s = rw (read-statement number bytes s, statement_turn)
+  unfolding statement_turn read_of
+  statement-run s = rw (s, statement_turn)
 
-  -- what was the last kind is no part of an answer
-  any_last : (statement : Statement) (q : Request) → answered (holds last d values classes) kind statement (run d (lent (holds last d values classes)) q) ≡ answered (holds 0 d values classes) kind statement (run d (lent (holds 0 d values classes)) q)
-  unfolding answered keeping lent
-  any_last statement q = refl
-
-  pub statement-taken : {list list' conditions conditions' : List ℕ} {r : Read} {statement : Statement} {listed tested : ℕ}
-      → Reading bytes number list list' conditions conditions' r
-      → r ≡ Reads.Statement statement listed tested
+  -- the lists that were read are those of the record
+  pub statement-taken : {list conditions : List ℕ} {read : Read} → Holds bytes list conditions read
       → statement_turn (holds last d values classes) kind number bytes
-      ≡ answered (holds 0 d values classes) kind statement (run d (lent (holds 0 d values classes)) (request statement (take listed list') (take tested conditions') (replicate 8192 0) (replicate 9216 0)))
-  statement-taken {list} {list'} {conditions} {conditions'} {r} {statement} {listed} {tested} k q =
-      let z = stated number bytes k.answer-is q in
-      let a : take listed list' ≡ list_of bytes = take-written list k.list-is (list_all number bytes z.is) z.listed-is in
-      let b : take tested conditions' ≡ conditions_of bytes = take-written conditions k.conditions-is (conditions-all number bytes z.is) z.tested-is in
-      statement-run z.is ∙ (any_last (statement_of bytes) (call (statement_of bytes) bytes)
-      ∙ (ap (λ c. answered (holds 0 d values classes) kind (statement_of bytes) (run d (lent (holds 0 d values classes)) c)) (same-call number bytes z.statement-is a b)
-      ∙ ap (λ s. answered (holds 0 d values classes) kind s (run d (lent (holds 0 d values classes)) (request statement (take listed list') (take tested conditions') (replicate 8192 0) (replicate 9216 0)))) (sym z.statement-is)))
+      ≡ answered (holds last d values classes) kind read.statement (run d (lent (holds last d values classes)) (request read.statement (take read.listed list) (take read.tested conditions) (replicate 8192 0) (replicate 9216 0)))
+  unfolding call
+  statement-taken h = statement-run h.is-statement ∙ rw (h.list-is, h.conditions-is, h.statement-is)
 
 -- ---- any record
 
-module _ (last : ℕ) (d : Description) (values classes : List ℕ) (number : ℕ) (bytes : List ℕ) {kind : ℕ} (k : kind ≡ kind_after last bytes) where
-  turn_is : step (holds last d values classes) number bytes ≡ turn_of (holds last d values classes) kind number bytes
+module _ (last : Option ℕ) (d : Description) (values classes : List ℕ) (number : ℕ) (bytes : List ℕ) {found : Option ℕ} (k : found ≡ kind_after last bytes) where
+  turn_is : step (holds last d values classes) number bytes ≡ turn_of (holds last d values classes) found number bytes
   unfolding step
   turn_is = rw (← k)
 
-  pub step-refused : kind ≡ 0 → step (holds last d values classes) number bytes ≡ refuses (holds last d values classes) number
+  pub step-refused : found ≡ None → step (holds last d values classes) number bytes ≡ refuses (holds last d values classes) number
   unfolding turn_of
   step-refused e = turn_is ∙ rw e
 
-  pub step-labels : kind ≡ 1 → step (holds last d values classes) number bytes ≡ labels_turn (holds last d values classes) number bytes
+  pub step-labels : {kind : ℕ} → found ≡ Some kind → kind ≡ 1 → step (holds last d values classes) number bytes ≡ labels_turn (holds last d values classes) number bytes
   unfolding turn_of
-  step-labels e = turn_is ∙ rw e
+  step-labels e i = turn_is ∙ rw (e, i)
 
-  pub step-relation : kind ≡ 2 → step (holds last d values classes) number bytes ≡ relation_turn (holds last d values classes) number bytes
+  pub step-relation : {kind : ℕ} → found ≡ Some kind → kind ≡ 2 → step (holds last d values classes) number bytes ≡ relation_turn (holds last d values classes) number bytes
   unfolding turn_of
-  step-relation e = turn_is ∙ rw e
+  step-relation e i = turn_is ∙ rw (e, i)
 
-  pub step_row : kind ≡ 3 → step (holds last d values classes) number bytes ≡ row_turn (holds last d values classes) number bytes
+  pub step_row : {kind : ℕ} → found ≡ Some kind → kind ≡ 3 → step (holds last d values classes) number bytes ≡ row_turn (holds last d values classes) number bytes
   unfolding turn_of
-  step_row e = turn_is ∙ rw e
+  step_row e i = turn_is ∙ rw (e, i)
 
-  pub step-statement : (kind ≡ 0 → ⊥) → (kind ≡ 1 → ⊥) → (kind ≡ 2 → ⊥) → (kind ≡ 3 → ⊥) → step (holds last d values classes) number bytes ≡ statement_turn (holds last d values classes) kind number bytes
+  pub step-statement : {kind : ℕ} → found ≡ Some kind → (kind ≡ 1 → ⊥) → (kind ≡ 2 → ⊥) → (kind ≡ 3 → ⊥) → step (holds last d values classes) number bytes ≡ statement_turn (holds last d values classes) kind number bytes
   unfolding turn_of
-  step-statement a b e f = turn_is ∙ rw (ne_eqb kind 0 a, ne_eqb kind 1 b, ne_eqb kind 2 e, ne_eqb kind 3 f)
+  step-statement {kind} e a b f = turn_is ∙ rw (e, ne_eqb kind 1 a, ne_eqb kind 2 b, ne_eqb kind 3 f)

@@ -1,6 +1,6 @@
 -- What the functions of a step promise.
 -- Assumes nothing: these are definitions and statements.
-use Rattle.std.specs.Prelude.{ℕ, ◌≡◌, List}
+use Rattle.std.specs.Prelude.{ℕ, ◌≡◌, List, Option, Some, None, replicate, if◌then◌else◌}
 use Rattle.model.specs.declared.Description.{Description}
 use Rattle.model.specs.declared.Statement.{Statement}
 use Rattle.model.specs.Buffers.{holding}
@@ -8,28 +8,51 @@ use Rattle.model.specs.Ledger.{lending}
 use Rattle.model.specs.Run.{run}
 use Rattle.lines.specs.Written.{Wrote}
 use Rattle.register.specs.Calls.{request, Slice, Shared, entering, leaving, reading}
+use Rattle.stream.specs.declared.Kept.{Kept}
 use Rattle.stream.specs.declared.Stepped.{Stepped}
-use Rattle.stream.specs.Step.{Held, Turn, lent, answered}
+use Rattle.stream.specs.Step.{Held, Turn, lent, refuses, answered}
 
-abbrev pub holds : ℕ → Description → List ℕ → List ℕ → Held
+abbrev pub holds : Option ℕ → Description → List ℕ → List ℕ → Held
 holds last d values classes = record { last = last; description = d; room = lending (holding values classes) }
+
+-- what a turn keeps for the next record, beside the room; nothing where no other is read
+abbrev pub kept_of : Turn → Option Kept
+kept_of t = if t.goes then Some (record { last = t.held.last; description = t.held.description }) else None
+
+-- a record of a kind has been taken
+abbrev pub taken_of : ℕ → ℕ → Description → Stepped
+taken_of printed kind d = record { printed = printed; kept = Some (record { last = Some kind; description = d }) }
 
 -- a record has left this turn: what is kept is in the answer and in the buffers for the tables, what is printed is in the text
 pub record Took (t : Turn) (text values' classes' text' : List ℕ) (r : Stepped) : Type 0 where
-  pub held-is : holds r.last r.description values' classes' ≡ t.held
-  pub goes-is : r.goes ≡ t.goes
+  pub kept-is : r.kept ≡ kept_of t
+  pub room-is : lending (holding values' classes') ≡ t.held.room
   pub text-is : Wrote 0 t.text text text' r.printed
 
 -- the record has this turn, with the tables in two slices and the text in a third
-abbrev pub Turns : (Held → Turn) → ℕ → Description → Slice → Slice → Slice → Stepped → Type 0
-Turns turn last d values classes text r =
-    Took (turn (holds last d (entering values) (entering classes))) (entering text) (leaving values) (leaving classes) (leaving text) r
+abbrev pub Turns : (Held → Turn) → Kept → Slice → Slice → Slice → Stepped → Type 0
+Turns turn kept values classes text r =
+    Took (turn (holds kept.last kept.description (entering values) (entering classes))) (entering text) (leaving values) (leaving classes) (leaving text) r
 
--- it has this turn whatever the tables are, and leaves them
-abbrev pub TurnsAny : (Held → Turn) → ℕ → Description → Slice → Stepped → Type 0
-TurnsAny turn last d text r = (values classes : List ℕ) → Took (turn (holds last d values classes)) (entering text) values classes (leaving text) r
+-- it has this turn whatever the last kind was
+abbrev pub TurnsAfter : (Held → Turn) → Description → Slice → Slice → Slice → Stepped → Type 0
+TurnsAfter turn d values classes text r = (last : Option ℕ) → Turns turn (record { last = last; description = d }) values classes text r
 
--- the turn of a statement with its lists and output buffers: the register's answer
-abbrev pub answering : Statement → ℕ → Shared → Shared → Slice → Slice → Held → Turn
-answering statement kind list conditions shown owners h =
-    answered h kind statement (run h.description (lent h) (request statement (reading list) (reading conditions) (entering shown) (entering owners)))
+-- it has this turn whatever the last kind and the tables are, and leaves them
+abbrev pub TurnsAny : (Held → Turn) → Description → Slice → Stepped → Type 0
+TurnsAny turn d text r =
+    (last : Option ℕ) (values classes : List ℕ) → Took (turn (holds last d values classes)) (entering text) values classes (leaving text) r
+
+-- it is refused whatever is kept, and leaves that
+abbrev pub RefusesAny : ℕ → Slice → Stepped → Type 0
+RefusesAny number text r = (d : Description) → TurnsAny (λ h. refuses h number) d text r
+
+-- the turn of a statement with its lists: the register's answer
+abbrev pub answering : Statement → ℕ → Shared → Shared → Held → Turn
+answering statement kind list conditions h =
+    answered h kind statement (run h.description (lent h) (request statement (reading list) (reading conditions) (replicate 8192 0) (replicate 9216 0)))
+
+-- so much is printed in that turn, whatever the record's kind
+abbrev pub Answers : Statement → Shared → Shared → Description → Slice → Slice → Slice → ℕ → Type 0
+Answers statement list conditions d values classes text printed =
+    (kind : ℕ) → TurnsAfter (answering statement kind list conditions) d values classes text (taken_of printed kind d)

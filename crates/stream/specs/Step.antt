@@ -1,21 +1,20 @@
 -- What one record does (01, "mlrun").
 -- Assumes nothing: these are definitions.
-use Rattle.std.specs.Prelude.{ℕ, Bool, true, false, List, [], ◌++◌, eqb, take, drop, replicate, if◌then◌else◌}
+use Rattle.std.specs.Prelude.{ℕ, Bool, true, false, List, [], ◌++◌, eqb, take, drop, replicate, if◌then◌else◌, Option, Some, None, Ok, Err}
 use Rattle.model.specs.declared.Description.{Description}
 use Rattle.model.specs.declared.Statement.{Statement}
 use Rattle.model.specs.Description.{column_count, total_of, sound}
 use Rattle.model.specs.Ledger.{Ledger, lending}
 use Rattle.model.specs.Run.{Request, Outcome, run}
-use Rattle.records.specs.declared.Read.TheVariants as Reads
 use Rattle.records.specs.Record.{kind_after}
 use Rattle.records.specs.Statements.{read_of, list_of, conditions_of}
 use Rattle.records.specs.Descriptions.{is_labels, labelled, is_related, related}
 use Rattle.placing.specs.Placing.{placeable, placed}
 use Rattle.lines.specs.Lines.{answer_text, refusal_text}
 
--- what is kept from record to record: the kind of the last one, 0 where none has come, the description, and room for the ledger
+-- what is kept from record to record: the kind of the last one, none where none has come, the description, and room for the ledger
 pub record Held : Type 0 where
-  pub last : ℕ
+  pub last : Option ℕ
   pub description : Description
   pub room : Ledger
 
@@ -34,7 +33,7 @@ unfoldable pub keeping : Held → ℕ → Ledger → Held
 keeping h kind b =
     let n = extent_of h.description in
     record {
-      last = kind;
+      last = Some kind;
       description = h.description;
       room = lending (record {
         values = b.tables.values ++ drop n h.room.tables.values;
@@ -44,7 +43,7 @@ keeping h kind b =
 
 -- what is kept after a record of that kind that left this description
 unfoldable pub describing : Held → ℕ → Description → Held
-describing h kind d = record { last = kind; description = d; room = h.room }
+describing h kind d = record { last = Some kind; description = d; room = h.room }
 
 -- what a record leaves: what is kept, what is printed, and whether the next record is read
 pub record Turn : Type 0 where
@@ -95,15 +94,15 @@ answered h kind statement o =
 unfoldable pub statement_turn : Held → ℕ → ℕ → List ℕ → Turn
 statement_turn h kind number bytes =
     elim (read_of bytes number) [
-      | Reads.Statement statement listed tested ↦ answered h kind statement (run h.description (lent h) (call statement bytes))
-      | Reads.Refused place ↦ refuses h place
+      | Ok read ↦ answered h kind read.statement (run h.description (lent h) (call read.statement bytes))
+      | Err place ↦ refuses h place
     ]
 
 -- the record's kind, if it is whole and in order, says what it does
-unfoldable pub turn_of : Held → ℕ → ℕ → List ℕ → Turn
-turn_of h kind number bytes =
-    if eqb kind 0 then refuses h number
-    else if eqb kind 1 then labels_turn h number bytes
+unfoldable pub turn_of : Held → Option ℕ → ℕ → List ℕ → Turn
+turn_of h None number bytes = refuses h number
+turn_of h (Some kind) number bytes =
+    if eqb kind 1 then labels_turn h number bytes
     else if eqb kind 2 then relation_turn h number bytes
     else if eqb kind 3 then row_turn h number bytes
     else statement_turn h kind number bytes

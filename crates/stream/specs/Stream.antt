@@ -1,6 +1,6 @@
 -- A whole stream: a fold of one step (01, "mlrun").
 -- Assumes nothing: these are definitions.
-use Rattle.std.specs.Prelude.{ℕ, zero, suc, List, [], ◌∷◌, ◌++◌, length, take, drop, replicate, if◌then◌else◌}
+use Rattle.std.specs.Prelude.{ℕ, zero, suc, None, List, [], ◌∷◌, ◌++◌, length, take, drop, replicate, if◌then◌else◌}
 use Rattle.model.specs.Buffers.{holding}
 use Rattle.model.specs.Ledger.{lending}
 use Rattle.records.specs.Record.{size_of}
@@ -9,7 +9,7 @@ use Rattle.stream.specs.Step.{Held, step}
 
 -- before the first record: room for every ledger, all of it empty
 unfoldable pub start : Held
-start = record { last = 0; description = nothing; room = lending (holding (replicate 8192 0) (replicate 8192 255)) }
+start = record { last = None; description = nothing; room = lending (holding (replicate 8192 0) (replicate 8192 255)) }
 
 -- what the records from number on print; each takes at least one byte, so as many turns as there are bytes are enough
 unfoldable pub printed_in : ℕ → Held → ℕ → List ℕ → List ℕ

@@ -1,10 +1,7 @@
 -- What is held and what waits stay within their buffers.
-use Rattle.std.proofs.Common.{◌-◌, length}
+use Rattle.std.proofs.Common.{length}
 use Rattle.mlrun.specs.Within.{Within}
 use Rattle.mlrun.proofs.run.Given as goal
 
 abbrev pub invariant-loop-number : goal.invariant-loop-number
 invariant-loop-number g l = Within l.state (length l.input) (length l.output)
-
-abbrev pub decreases-loop-number : goal.decreases-loop-number
-decreases-loop-number g l = 18446744073709551615 - l.number

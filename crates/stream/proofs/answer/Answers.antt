@@ -1,13 +1,7 @@
-use native.Mathlib.Omega.{arith}
-use lib.ListN.{length-take}
 use Rattle.stream.proofs.Turns.{answer-took}
 use Rattle.stream.proofs.answer.Goals as goal
 
-pub slice_bounds-run-end-2 : goal.slice_bounds-run-end-2
-slice_bounds-run-end-2 c = simp length-take (omega arith)
-
-pub slice_bounds-run-end-4 : goal.slice_bounds-run-end-4
-slice_bounds-run-end-4 c = simp length-take (omega arith)
+-- The register's answer on the part of the room that the tables take.
 
 pub returns : goal.returns
-returns c = answer-took _ _ _ _ _ _ c.total-extent.ensures c.least-a.ensures c.least-b.ensures c.run-answer.ensures c.columns-columns.ensures c.answer-printed.ensures
+returns c = λ kind last. answer-took last _ _ _ kind _ _ c.total-extent.ensures c.min-a.ensures c.min-b.ensures c.run-answer.ensures c.columns-columns.ensures c.answer.ensures

@@ -1,22 +1,30 @@
 use native.Mathlib.Omega.{arith}
 use lib.ListN.{length-take}
-use Rattle.stream.proofs.Turns.{took-as, statement-refused, few-listed, few-tested, statement-taken}
+use Rattle.records.proofs.Outcomes.{holds, refuses}
+use Rattle.stream.proofs.Turns.{took-as, statement-refused, statement-taken}
 use Rattle.stream.proofs.call.Goals as goal
 
-pub returns-in_default : goal.returns-in_default
-returns-in_default c = took-as (statement-refused _ _ _ _ _ _ _ _ c.statement.ensures.answer-is c.in_default.is) (c.refuse.ensures _ _)
+-- Refused, or answered with the lists that were read.
 
 pub slice_bounds-list-end : goal.slice_bounds-list-end
-slice_bounds-list-end c = few-listed _ _ c.statement.ensures c.in-Statement.is
+slice_bounds-list-end c = let h = holds c.statement.ensures c.in-Ok.is in
+    omega (arith, h.listed-short, c.statement.array_long)
 
 pub slice_bounds-answer-end : goal.slice_bounds-answer-end
-slice_bounds-answer-end c = simp length-take (omega (arith, few-listed _ _ c.statement.ensures c.in-Statement.is))
+slice_bounds-answer-end c = let h = holds c.statement.ensures c.in-Ok.is in
+    simp length-take (omega (arith, h.listed-short, c.statement.array_long))
 
 pub slice_bounds-conditions-end : goal.slice_bounds-conditions-end
-slice_bounds-conditions-end c = few-tested _ _ c.statement.ensures c.in-Statement.is
+slice_bounds-conditions-end c = let h = holds c.statement.ensures c.in-Ok.is in
+    omega (arith, h.tested-short, c.statement.array_long2)
 
-pub slice_bounds-answer-end-2 : goal.slice_bounds-answer-end-2
-slice_bounds-answer-end-2 c = simp length-take (omega (arith, few-tested _ _ c.statement.ensures c.in-Statement.is))
+pub slice_bounds-answer-end-in-Ok : goal.slice_bounds-answer-end-in-Ok
+slice_bounds-answer-end-in-Ok c = let h = holds c.statement.ensures c.in-Ok.is in
+    simp length-take (omega (arith, h.tested-short, c.statement.array_long2))
 
-pub returns : goal.returns
-returns c = took-as (statement-taken _ _ _ _ _ _ _ c.statement.ensures c.in-Statement.is) c.answer.ensures
+pub returns-in-Err : goal.returns-in-Err
+returns-in-Err c = let e = refuses c.statement.ensures c.in-Err.is in
+    λ last. took-as (statement-refused last _ _ _ _ _ _ e.0) (rw (← e.1) (c.refuse.ensures _ last _ _))
+
+pub returns-in-Ok : goal.returns-in-Ok
+returns-in-Ok c = λ last. took-as (statement-taken last _ _ _ _ _ _ (holds c.statement.ensures c.in-Ok.is)) (rw c.taken.ensures (c.answer-printed.ensures _ last))

@@ -1,22 +1,17 @@
-use native.Mathlib.Omega.{arith}
-use lib.ListN.{length-take}
 use Rattle.stream.proofs.Turns.{took-as, quiet, row-values, row-classes, row-refused, row-taken}
+use Rattle.stream.proofs.row.Goals.{then-values-extent-via-then-values-extent, then-values-extent-via-else-values-extent+then-classes-extent}
 use Rattle.stream.proofs.row.Goals as goal
 
+-- Refused where the room is too small or the row can't be placed, or placed.
+
 pub returns-then-values-extent : goal.returns-then-values-extent
-returns-then-values-extent c = took-as (row-values _ _ _ _ _ _ c.total-extent.ensures c.if-values-extent.true) (c.refuse.ensures _ _)
-
-pub returns-then-classes-extent : goal.returns-then-classes-extent
-returns-then-classes-extent c = took-as (row-classes _ _ _ _ _ _ c.total-extent.ensures c.if-classes-extent.true) (c.refuse-then-classes-extent.ensures _ _)
-
-pub slice_bounds-place-end-2 : goal.slice_bounds-place-end-2
-slice_bounds-place-end-2 c = simp length-take (omega arith)
-
-pub slice_bounds-place-end-4 : goal.slice_bounds-place-end-4
-slice_bounds-place-end-4 c = simp length-take (omega arith)
+returns-then-values-extent c = λ last. elim c.then-values-extent.branch [
+  | then-values-extent-via-then-values-extent w ↦ took-as (row-values last _ _ _ _ _ c.total-extent.ensures w.if-values-extent.true) (c.refuse.ensures _ last _ _)
+  | then-values-extent-via-else-values-extent+then-classes-extent w ↦ took-as (row-classes last _ _ _ _ _ c.total-extent.ensures w.if-classes-extent.true) (c.refuse.ensures _ last _ _)
+]
 
 pub returns-then-not-place : goal.returns-then-not-place
-returns-then-not-place c = took-as (row-refused _ _ _ _ _ _ c.total-extent.ensures c.place.ensures c.if-not-place.true) (c.refuse-then-not-place.ensures _ _)
+returns-then-not-place c = λ last. took-as (row-refused last _ _ _ _ _ c.total-extent.ensures c.place.ensures c.if-not-place.true) (c.refuse-then-not-place.ensures _ last _ _)
 
 pub returns : goal.returns
-returns c = quiet _ _ _ _ _ (row-taken _ _ _ _ _ _ c.total-extent.ensures c.place.ensures c.if-not-place.false)
+returns c = λ last. quiet _ _ _ _ _ c.taken.ensures (row-taken last _ _ _ _ _ c.total-extent.ensures c.place.ensures c.if-not-place.false)
