@@ -18,10 +18,11 @@ impl Label {
         ensures { result ≡ height_of self.0 }
     {
         let label = self.0 as u32;
-        label / 256 + u32::count_ones(label % 256)
+        label / 256 + (label % 256).count_ones()
     }
 
     // Whether the rank is at least the other's and the compartments contain the other's.
+    #[tactic(auto, using(std::proofs::lemmas::Bool::Decides::nat_tests), unfolding(crate::specs::Label::dominates, crate::specs::Label::rank_of, crate::specs::Label::compartments_of, crate::specs::Label::contains))]
     pub fn dominates(self, other: Label) -> bool
         ensures { result ≡ dominates self.0 other.0 }
     {
@@ -32,6 +33,7 @@ impl Label {
 }
 
 // The constant `Label::BOTTOM`, with the promise that a constant can't carry.
+#[tactic(auto, unfolding(crate::specs::Label::bottom_label))]
 pub fn bottom() -> Label
     ensures { result.0 ≡ bottom_label }
 {
@@ -39,17 +41,12 @@ pub fn bottom() -> Label
 }
 
 // Whether level `a` dominates level `b`; false where either is no level.
+#[tactic(auto, using(std::proofs::lemmas::Bool::Decides::nat_tests), unfolding(crate::specs::Order::level_dominates))]
 fn entry(labels: [u16; 16], levels: usize, a: usize, b: usize) -> bool
     requires { (a < 16) × (b < 16) }
     ensures { result ≡ level_dominates labels levels a b }
 {
-    if levels <= a {
-        return false;
-    }
-    if levels <= b {
-        return false;
-    }
-    Label(labels[a]).dominates(Label(labels[b]))
+    a < levels && b < levels && Label(labels[a]).dominates(Label(labels[b]))
 }
 
 // What level `a` dominates.
@@ -64,7 +61,8 @@ fn row(labels: [u16; 16], levels: usize, a: usize) -> [bool; 16]
     row
 }
 
-// Which level dominates which, for every pair: laid out once per call.
+// Which level dominates which, for every pair: laid out once per call. By `array::from_fn` the proof didn't close: what a closure says of an array
+// that it answers isn't found.
 pub fn order(labels: [u16; 16], levels: usize) -> [[bool; 16]; 16]
     ensures { result ≡ order_of labels levels }
 {
@@ -76,14 +74,9 @@ pub fn order(labels: [u16; 16], levels: usize) -> [[bool; 16]; 16]
 }
 
 // One entry of what `order` laid out; false outside it.
+#[tactic(auto, using(std::proofs::lemmas::Bool::Decides::nat_tests), unfolding(crate::specs::Order::entry_of))]
 pub fn over(order: [[bool; 16]; 16], a: usize, b: usize) -> bool
     ensures { result ≡ entry_of order a b }
 {
-    if 16 <= a {
-        return false;
-    }
-    if 16 <= b {
-        return false;
-    }
-    order[a][b]
+    a < 16 && b < 16 && order[a][b]
 }
