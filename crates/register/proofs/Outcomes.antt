@@ -84,13 +84,13 @@ lent-legal d vs cs e = e
 
 -- ---- from the cells to the ledger
 
-module _ (d : Description) (order : List (List Bool)) (vs cs : List ℕ) (q : Request) (j : Judged d order vs cs) where
+module _ (d : Description) (vs cs : List ℕ) (q : Request) (j : Judged d vs cs) where
   abbrev b : Ledger
   b = lending (holding vs cs)
 
   pub malformed-out : formed d q ≡ false → outcome (Err Faults.Malformed) vs cs q.shown q.owners ≡ run d b q
   malformed-out m =
-      refusal-out d b q Faults.Malformed (malformed-refused d b q j.ordering.sound-is (lent_fits_lem d vs cs j.fits) (lent-legal d vs cs j.legal-is) m) refl
+      refusal-out d b q Faults.Malformed (malformed-refused d b q j.sound-is (lent_fits_lem d vs cs j.fits) (lent-legal d vs cs j.legal-is) m) refl
 
   pub carried-out : formed d q ≡ true → {vs' cs' shown' owners' : List ℕ} {a : Answer} → fitting d (holding vs' cs') ≡ true
       → Carried d q vs cs a vs' cs' shown' owners' → outcome a vs' cs' shown' owners' ≡ run d b q
@@ -98,7 +98,7 @@ module _ (d : Description) (order : List (List Bool)) (vs cs : List ℕ) (q : Re
   carried-out m {vs'} {cs'} g w = go w
     where
       refusal_is : refusal d b q ≡ first_fault (further d q q.statement.what (sight d (subject q) vs cs))
-      refusal_is = further-refused d b q j.ordering.sound-is (lent_fits_lem d vs cs j.fits) (lent-legal d vs cs j.legal-is) m
+      refusal_is = further-refused d b q j.sound-is (lent_fits_lem d vs cs j.fits) (lent-legal d vs cs j.legal-is) m
 
       go : {shown' owners' : List ℕ} {a : Answer} → Carried d q vs cs a vs' cs' shown' owners' → outcome a vs' cs' shown' owners' ≡ run d b q
       go (refuses x t h v c s o) = rw (v, c, s, o) (refusal-out d b q x (refusal_is ∙ t) h)

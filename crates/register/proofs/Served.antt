@@ -9,9 +9,10 @@ use lib.ListN.{length, get_or}
 use borrow.Author.Tests.{ltb-true}
 use Rattle.bounded.proofs.Cases.{and_left, and_right}
 use Rattle.bounded.proofs.Reflection.{of-true, bool-r, and_r, eqb-r}
+use Rattle.level.specs.Order.{order_of}
 use Rattle.model.specs.declared.Description.{Description}
 use Rattle.model.specs.declared.What.TheVariants as Whats
-use Rattle.model.specs.Description.{is_level, is_relation, column_count, total_of}
+use Rattle.model.specs.Description.{sound, is_level, is_relation, column_count, total_of}
 use Rattle.model.specs.Buffers.{holding, fitting}
 use Rattle.model.specs.Conditions.{conditions_formed}
 use Rattle.model.specs.Insert.{insert_formed}
@@ -20,23 +21,19 @@ use Rattle.model.specs.Uplevel.{uplevel_formed}
 use Rattle.model.specs.Select.{select_formed}
 use Rattle.model.specs.Run.{Request, subject, relation, formed, formed_as, empty}
 use Rattle.model.proofs.Sound.{relation-of}
-use Rattle.cells.specs.declared.layout.Part.{Part}
-use Rattle.cells.specs.Layout.{Laid}
-use Rattle.cells.proofs.Counts.{sound-says, relation-few, column-count}
-use Rattle.asked.specs.Facts.{Ordered, Related}
+use Rattle.cells.proofs.Counts.{sound-says, relation-few}
+use Rattle.asked.specs.Known.{Ordered, Related}
 use Rattle.change.specs.Facts.{Standing}
-use Rattle.register.specs.Facts.{Ordering, Judged}
+use Rattle.register.specs.Facts.{Judged}
 
-pub ordered_of : (d : Description) (order : List (List Bool)) → Ordering d order → Ordered d order
-ordered_of d order o = record { order_is = o.order_is; few = (sound-says d o.sound-is).few-levels }
+pub ordered_of : (d : Description) (order : List (List Bool)) → sound d ≡ true → order ≡ order_of d.labels d.levels → Ordered d order
+ordered_of d order s o = record { order_is = o; few = (sound-says d s).few-levels }
 
-pub related-of : (d : Description) (order : List (List Bool)) (r n : ℕ) → Ordering d order → is_relation d r ≡ true → n ≡ get_or d.columns r 0 → Related d r n
-related-of d order r n o h e =
-    let k : n ≡ column_count d r = e ∙ column-count d o.sound-is r h in
-    record { relation = relation-few d o.sound-is r h; is = k; narrow = omega (arith, (relation-of d (sound-says d o.sound-is) r h).narrow) }
+pub related-of : (d : Description) (r : ℕ) {n : ℕ} → sound d ≡ true → is_relation d r ≡ true → n ≡ column_count d r → Related d r n
+related-of d r s h e = record { relation = relation-few d s r h; is = e; narrow = omega (arith, e, (relation-of d (sound-says d s) r h).narrow) }
 
-pub few-relations : (d : Description) (order : List (List Bool)) → Ordering d order → d.relations ≤ 8
-few-relations d order o = (sound-says d o.sound-is).few-relations
+pub few-relations : (d : Description) → sound d ≡ true → d.relations ≤ 8
+few-relations d s = (sound-says d s).few-relations
 
 pub still-fits : (d : Description) (vs cs vs' cs' : List ℕ) → fitting d (holding vs cs) ≡ true → length vs' ≡ length vs → length cs' ≡ length cs → fitting d (holding vs' cs') ≡ true
 unfolding fitting
@@ -77,20 +74,11 @@ module _ (d : Description) (q : Request) (m : formed d q ≡ true) where
   unfolding formed_as
   select-shape w = of-true (and_r (bool-r (select_formed d q.list)) (bool-r (conditions_formed d (relation q) q.conditions))) (rw w at shape)
 
-  pub standing-of : (order : List (List Bool)) (p : Part) (vs cs : List ℕ) → Judged d order vs cs → Laid d (relation q) p → Standing d order (relation q) (subject q) p vs cs
+  pub standing-of : (vs cs : List ℕ) → Judged d vs cs → Standing d (relation q) (subject q) vs cs
   unfolding fitting
-  standing-of order p vs cs j l =
+  standing-of vs cs j =
       let f = of-true (and_r (eqb-r (length vs) (total_of d)) (eqb-r (length cs) (total_of d))) j.fits in
-      record {
-        sound-is = j.ordering.sound-is;
-        order_is = j.ordering.order_is;
-        relation = relation-known;
-        level = level-there;
-        laid = l;
-        long = f.0;
-        wide = f.1;
-        legal-is = j.legal-is;
-      }
+      record { sound-is = j.sound-is; relation = relation-known; level = level-there; long = f.0; wide = f.1; legal-is = j.legal-is }
 
 -- the test that the code makes, as the definition has it
 pub formed-is : (d : Description) (q : Request) {b : Bool} {v : Bool} → b ≡ (is_level d (subject q) && (is_relation d (relation q) && formed_as d (relation q) q.statement.what q.list q.conditions)) → b ≡ v → formed d q ≡ v

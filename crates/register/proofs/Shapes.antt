@@ -6,8 +6,9 @@ use mathlib.Core.Path.{◌≡◌, refl, sym, ◌∙◌}
 use mathlib.Core.Bool.{Bool, true, false, ◌&&◌}
 use mathlib.Core.List.{List}
 use lib.ListN.{length}
-use borrow.Author.Tests.{eq-eqb, ne_eqb, lt-ltb, le-ltb}
-use Rattle.bounded.proofs.Cases.{and-false-right}
+use Rattle.std.specs.Prelude.{◌==◌}
+use borrow.Author.Tests.{eq-eqb, ne_eqb, lt-ltb, le-ltb, eqb-true}
+use Rattle.bounded.proofs.Cases.{clash, and-false-right}
 use Rattle.bounded.proofs.Reflection.{is_true, is_false}
 use Rattle.model.specs.declared.Description.{Description}
 use Rattle.model.specs.declared.What.TheVariants as Whats
@@ -23,6 +24,16 @@ use Rattle.model.proofs.Sound.{relation-r}
 and-true-right : (a b : Bool) → b ≡ true → (a && b) ≡ a
 and-true-right true b e = e
 and-true-right false b e = refl
+
+-- ---- a list is empty or not
+
+pub empty-so : (list : List ℕ) {b : Bool} → b ≡ (length list == 0) → b ≡ true → length list ≡ 0
+empty-so list e t = eqb-true _ _ (sym e ∙ t)
+
+pub empty_not : (list : List ℕ) {b : Bool} → b ≡ (length list == 0) → b ≡ false → length list ≡ 0 → ⊥
+empty_not list e f z = clash (eq-eqb _ _ z) (sym e ∙ f)
+
+-- ---- the lists
 
 module _ (d : Description) (r : ℕ) (list conditions : List ℕ) where
   pub insert-more : (length conditions ≡ 0 → ⊥) → false ≡ formed_as d r Whats.Insert list conditions

@@ -1,5 +1,6 @@
 // A statement on legal tables.
 ghost use Rattle.std.specs.Prelude.{◌≡◌, true};
+ghost use Rattle.model.specs.Description.{sound, is_relation};
 ghost use Rattle.model.specs.Run.{formed as formed_of};
 ghost use Rattle.register.specs.Facts.{Judged};
 ghost use Rattle.register.specs.Calls.{request, Runs, Carries};
@@ -14,6 +15,17 @@ use model::{Answer, Fault, Statement, What};
 use select::select;
 use update::update;
 use uplevel::uplevel;
+
+// What a statement about a relation is about.
+fn about(levels: Levels, relation: usize) -> Table
+    requires { (sound levels.description ≡ true) × (is_relation levels.description relation ≡ true) }
+    ensures described { result.part.description ≡ levels.description }
+    ensures of_relation { result.part.relation ≡ relation }
+{
+    let order = levels.order;
+    let part = lay(levels.description, relation);
+    Table { part, order }
+}
 
 // A statement that is well formed is carried out.
 fn carry(
@@ -31,9 +43,7 @@ fn carry(
     ensures { Carries levels.description statement list conditions values classes shown owners result }
 {
     let level = statement.level as usize;
-    let order = levels.order;
-    let part = lay(levels.description, statement.relation as usize);
-    let table = Table { part, order };
+    let table = about(levels, statement.relation as usize);
     match statement.what {
         What::Insert => insert(values, classes, list, table, level),
         What::Delete => delete(values, classes, conditions, table, level),
