@@ -5,7 +5,7 @@ use mathlib.Core.Path.{◌≡◌, sym, ◌∙◌}
 use mathlib.Core.Bool.{Bool, true, ◌&&◌}
 use mathlib.Core.List.{List}
 use native.Mathlib.Omega.{arith}
-use lib.ListN.{length, get_or}
+use lib.ListN.{length}
 use borrow.Author.Tests.{ltb-true}
 use Rattle.bounded.proofs.Cases.{and_left, and_right}
 use Rattle.bounded.proofs.Reflection.{of-true, bool-r, and_r, eqb-r}

@@ -35,9 +35,14 @@ pub fn run(
 {
     let labels = description.labels;
     let order = level::order(labels, description.levels as usize);
-    judge::verdict(description, order, values, classes)?;
-    let levels = Levels { description, order };
-    serve::serve(
-        values, classes, list, conditions, shown, owners, levels, statement,
-    )
+    match judge::verdict(description, order, values, classes) {
+        Ok(()) => {
+            let levels = Levels { description, order };
+            serve::serve(
+                values, classes, list, conditions, shown, owners, levels, statement,
+            )
+        }
+        // No `?`, which would leave the edit `run_other_number` no place for its other number.
+        Err(fault) => Err(fault),
+    }
 }
