@@ -6,7 +6,7 @@ ghost use Rattle.records.specs.Statements.{what_of, end_of, entry_at, numbers_of
 ghost use Rattle.records.specs.Facts.{Filled, Reading};
 
 use crate::Read;
-use crate::bytes::{count, field, pair, quad};
+use crate::bytes::{pair, quad};
 use crate::kinds::{Entry, form_of, is_kind};
 use crate::whole::is_whole;
 use model::{Statement, What};
@@ -38,7 +38,7 @@ fn list_end(bytes: &[u8], entry: Option<Entry>, at: usize) -> usize
 {
     match entry {
         None => at,
-        Some(entry) => at + 2 + entry.width() * count(bytes, at),
+        Some(entry) => at + 2 + entry.width() * pair(bytes, at) as usize,
     }
 }
 
@@ -68,14 +68,14 @@ fn put(bytes: &[u8], list: &mut [u32], entry: Entry, at: usize)
     requires { (at ≤ 2000) × (numbers entry ≤ length list.old) }
     ensures { list.new ≡ write_at 0 (entry_at bytes.now entry at) list.old }
 {
-    list[0] = field(bytes, at);
+    list[0] = pair(bytes, at) as u32;
     match entry {
         Entry::Level => {}
-        Entry::Borrow => list[1] = field(bytes, at + 2),
+        Entry::Borrow => list[1] = pair(bytes, at + 2) as u32,
         Entry::Cell => list[1] = quad(bytes, at + 2),
         Entry::Condition => {
-            list[1] = field(bytes, at + 2);
-            list[2] = field(bytes, at + 4);
+            list[1] = pair(bytes, at + 2) as u32;
+            list[2] = pair(bytes, at + 4) as u32;
             list[3] = quad(bytes, at + 6);
         }
     }
@@ -89,7 +89,7 @@ fn fill(bytes: &[u8], list: &mut [u32], entry: Option<Entry>, at: usize) -> usiz
     let Some(entry) = entry else {
         return 0;
     };
-    let n = count(bytes, at);
+    let n = pair(bytes, at) as usize;
     let numbers = entry.numbers();
     let width = entry.width();
     for i in 0..n {
