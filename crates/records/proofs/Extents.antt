@@ -3,7 +3,7 @@
 -- Assumes nothing.
 use Rattle.std.specs.Prelude.{if◌then◌else◌, Option, Some, None}
 use Prim.Native.Nat.{ℕ, ◌+◌, ◌*◌, ◌≤◌, ◌<◌}
-use mathlib.Core.Path.{◌≡◌}
+use mathlib.Core.Path.{◌≡◌, ◌∙◌}
 use mathlib.Core.Bool.{Bool, true, false}
 use mathlib.Core.List.{List}
 use native.Mathlib.Omega.{arith}
@@ -84,6 +84,16 @@ module _ (bytes : List ℕ) where
   whole_is : is_statement bytes ≡ true → whole bytes ≡ true
   unfolding is_statement
   whole_is s = and_left (whole bytes) _ s
+
+  -- ---- where the lists end, by the form
+
+  pub list-end-is : {f : Form} {a : ℕ} → f ≡ form bytes → a ≡ end_of bytes f.list f.at → a ≡ list_end bytes
+  unfolding list_end
+  list-end-is e p = p ∙ rw e
+
+  pub length-asked-is : {f : Form} {a b : ℕ} → f ≡ form bytes → a ≡ list_end bytes → b ≡ end_of bytes f.conditions a → b ≡ length_asked bytes
+  unfolding length_asked
+  length-asked-is e p q = q ∙ rw (e, p)
 
   -- ---- both lists end in the record
 

@@ -1,4 +1,5 @@
 pub mod Written
+pub mod Asked
 pub mod Extents
 pub mod Outcomes
 pub mod Settled

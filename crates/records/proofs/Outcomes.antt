@@ -7,13 +7,16 @@ use mathlib.Core.Bool.{true, false}
 use mathlib.Core.List.{List}
 use native.Mathlib.Omega.{arith}
 use lib.ListN.{length, take}
+use borrow.Author.Tests.{eq-eqb, ne_eqb}
 use lib.Seq.{take-append_seam}
 use Rattle.bounded.specs.Lists.{write_at}
-use Rattle.bounded.proofs.Cases.{cases}
+use Rattle.bounded.proofs.Cases.{cases, and-false-right}
 use Rattle.bounded.proofs.Lists.{write-none}
 use Rattle.model.specs.declared.Statement.{Statement}
 use Rattle.records.specs.declared.Read.{Read}
-use Rattle.records.specs.Statements.{list_of, conditions_of, statement_of, is_statement, read_of, list_read, conditions_read}
+use Rattle.records.specs.Kinds.{is_kind}
+use Rattle.records.specs.Record.{whole}
+use Rattle.records.specs.Statements.{kind, length_asked, list_of, conditions_of, statement_of, is_statement, read_of, list_read, conditions_read}
 use Rattle.records.specs.Facts.{Filled, Reading}
 use Rattle.records.proofs.Extents.{list-short, conditions-short}
 
@@ -38,6 +41,25 @@ module _ (bytes : List ℕ) (number : ℕ) where
         list-is = rw e l.lent_is;
         conditions-is = rw e t.lent_is;
       }
+
+-- ---- what is tested
+
+module _ (bytes : List ℕ) where
+  pub kindless : is_kind (kind bytes) ≡ false → is_statement bytes ≡ false
+  unfolding is_statement
+  kindless k = and-false-right (whole bytes) _ (rw k)
+
+  pub broken : whole bytes ≡ false → is_statement bytes ≡ false
+  unfolding is_statement
+  broken w = rw w
+
+  pub misfit : (length bytes ≡ length_asked bytes → ⊥) → is_statement bytes ≡ false
+  unfolding is_statement
+  misfit l = and-false-right (whole bytes) _ (and-false-right (is_kind (kind bytes)) _ (ne_eqb _ _ l))
+
+  pub statement-is : whole bytes ≡ true → is_kind (kind bytes) ≡ true → length bytes ≡ length_asked bytes → is_statement bytes ≡ true
+  unfolding is_statement
+  statement-is w k l = rw (w, k, eq-eqb _ _ l)
 
 -- ---- for the caller
 

@@ -2,6 +2,8 @@
 -- byte, its header included.
 -- Assumes nothing: these are definitions.
 use Rattle.std.specs.Prelude.{ℕ, Bool, eqb, if◌then◌else◌, Option, Some, None}
+use Rattle.model.specs.declared.What.{What}
+use Rattle.model.specs.declared.What.TheVariants as Whats
 use Rattle.model.specs.Description.{between}
 use Rattle.records.specs.declared.kinds.Entry.{Entry}
 use Rattle.records.specs.declared.kinds.Entry.TheVariants as Entries
@@ -24,6 +26,14 @@ numbers Entries.Condition = 4
 -- whether a kind is a statement's
 unfoldable pub is_kind : ℕ → Bool
 is_kind kind = between 16 20 kind
+
+-- the kind of a statement by what it asks for
+unfoldable pub number_of : What → ℕ
+number_of Whats.Insert = 16
+number_of Whats.Delete = 17
+number_of Whats.Update = 18
+number_of (Whats.Uplevel key class) = 19
+number_of Whats.Select = 20
 
 -- a list from a place on, of such entries if there is one, and such conditions behind it
 abbrev pub lists : ℕ → Option Entry → Option Entry → Form

@@ -27,6 +27,10 @@ what_of bytes =
     else if eqb (kind bytes) 19 then Whats.Uplevel (quad bytes 8) (pair bytes 12)
     else Whats.Select
 
+-- what a record asks for, if its kind is a statement's
+unfoldable pub what_read : List ℕ → Option What
+what_read bytes = if is_kind (kind bytes) then Some (what_of bytes) else None
+
 -- every statement begins with "level, relation"
 unfoldable pub statement_of : List ℕ → Statement
 statement_of bytes = record { level = pair bytes 4; relation = pair bytes 6; what = what_of bytes }

@@ -1,5 +1,5 @@
 // Numbers in bytes, little-endian. A byte behind the end counts 0.
-ghost use Rattle.std.specs.Prelude.{◌≡◌, ◌≤◌, get_or, drop};
+ghost use Rattle.std.specs.Prelude.{◌≡◌, get_or, drop};
 ghost use Rattle.records.specs.Bytes.{pair as pair_of, quad as quad_of};
 
 // What stands from a place on, nothing from behind the end.
@@ -22,20 +22,6 @@ pub fn pair(bytes: &[u8], at: usize) -> u16
 {
     let rest = rest(bytes, at);
     u16::from_le_bytes([byte(rest, 0), byte(rest, 1)])
-}
-
-// Two bytes, for a list of numbers of four.
-pub(crate) fn field(bytes: &[u8], at: usize) -> u32
-    ensures { (result ≡ pair_of bytes.now at) × (result ≤ 65535) }
-{
-    pair(bytes, at) as u32
-}
-
-// Two bytes, for a count.
-pub(crate) fn count(bytes: &[u8], at: usize) -> usize
-    ensures { (result ≡ pair_of bytes.now at) × (result ≤ 65535) }
-{
-    pair(bytes, at) as usize
 }
 
 // Four bytes.

@@ -1,10 +1,9 @@
 // The records that describe the tables: the labels, and a relation.
-ghost use Rattle.std.specs.Prelude.{◌≡◌, ◌+◌, ◌*◌, ◌≤◌, min};
+ghost use Rattle.std.specs.Prelude.{◌≡◌, ◌+◌, ◌*◌, ◌≤◌};
 ghost use Rattle.bounded.specs.Lists.{write_at};
-ghost use Rattle.records.specs.Bytes.{pair as pair_of};
 ghost use Rattle.records.specs.Descriptions.{nothing as nothing_of, is_labels, label_count, label_at, labels_of, labelled, is_related, ends as ends_of, with_relation, related};
 
-use crate::bytes::{count, pair};
+use crate::bytes::pair;
 use model::Description;
 
 // The description before any record.
@@ -85,22 +84,15 @@ pub fn labels(bytes: &[u8], description: Description) -> Description
 pub fn is_relation(bytes: &[u8]) -> bool
     ensures { result ≡ is_related bytes.now }
 {
-    bytes.len() == 12 + 4 * count(bytes, 4)
+    bytes.len() == 12 + 4 * pair(bytes, 4) as usize
 }
 
-// How many columns the description can hold.
-fn held(bytes: &[u8]) -> usize
-    ensures { (result ≡ min (pair_of bytes.now 4) 8) × (result ≤ 8) }
-{
-    count(bytes, 4).min(8)
-}
-
-// The ends of the columns' ranges, from a place of the record on.
+// The ends of the columns' ranges, from a place of the record on, as far as the description holds them.
 fn ends(bytes: &[u8], at: usize, relation: usize, before: [u16; 81]) -> [u16; 81]
     requires { (at ≤ 100) × (relation ≤ 8) }
     ensures { result ≡ write_at (9 * relation + 1) (ends_of bytes.now at) before }
 {
-    let columns = held(bytes);
+    let columns = pair(bytes, 4).min(8) as usize;
     let mut next = before;
     for k in 0..columns {
         next[9 * relation + 1 + k] = pair(bytes, at + 4 * k);
@@ -125,7 +117,7 @@ fn with_relation(bytes: &[u8], description: Description, relation: usize) -> Des
     next
 }
 
-// The description with this relation, or with too many.
+// The description with this relation, or with too many: nine stand for any number over eight, as the definition `overfull` has it.
 #[tactic(auto, unfolding(crate::specs::Descriptions::related, crate::specs::Descriptions::overfull))]
 pub fn relation(bytes: &[u8], description: Description) -> Description
     ensures { result ≡ related description bytes.now }

@@ -1,6 +1,8 @@
-// The kinds of statements, as a table. They are numbers here as they are in the documents and in the records.
+// The kinds of statements, as a table.
 ghost use Rattle.std.specs.Prelude.{◌≡◌, ◌≤◌};
-ghost use Rattle.records.specs.Kinds.{width, numbers, is_kind, lists as lists_of, form_of};
+ghost use Rattle.records.specs.Kinds.{width, numbers, is_kind, number_of, lists as lists_of, form_of};
+
+use model::What;
 
 // What an entry of a list is.
 #[derive(Clone, Copy)]
@@ -71,16 +73,15 @@ fn lists(at: usize, list: Option<Entry>, conditions: Option<Entry>) -> Form
 }
 
 // The form of each kind, a line a kind.
-#[tactic(auto, unfolding(crate::specs::Kinds::form_of))]
-pub(crate) fn form_of(kind: u16) -> Form
-    ensures { result ≡ form_of kind }
+#[tactic(auto, unfolding(crate::specs::Kinds::form_of, crate::specs::Kinds::number_of))]
+pub(crate) fn form_of(what: What) -> Form
+    ensures { result ≡ form_of (number_of what) }
 {
-    match kind {
-        16 => lists(8, Some(Entry::Cell), None),
-        17 => lists(8, None, Some(Entry::Condition)),
-        18 => lists(8, Some(Entry::Cell), Some(Entry::Condition)),
-        19 => lists(14, Some(Entry::Borrow), None),
-        20 => lists(8, Some(Entry::Level), Some(Entry::Condition)),
-        _ => lists(8, None, None),
+    match what {
+        What::Insert => lists(8, Some(Entry::Cell), None),
+        What::Delete => lists(8, None, Some(Entry::Condition)),
+        What::Update => lists(8, Some(Entry::Cell), Some(Entry::Condition)),
+        What::Uplevel { .. } => lists(14, Some(Entry::Borrow), None),
+        What::Select => lists(8, Some(Entry::Level), Some(Entry::Condition)),
     }
 }

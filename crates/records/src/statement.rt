@@ -2,31 +2,32 @@
 ghost use Rattle.std.specs.Prelude.{◌≡◌, ◌+◌, ◌≤◌, length};
 ghost use Rattle.bounded.specs.Lists.{write_at};
 ghost use Rattle.records.specs.Kinds.{numbers};
-ghost use Rattle.records.specs.Statements.{what_of, end_of, entry_at, numbers_of, length_asked, is_statement};
+ghost use Rattle.records.specs.Statements.{what_read, end_of, entry_at, numbers_of};
 ghost use Rattle.records.specs.Facts.{Filled, Reading};
 
 use crate::Read;
-use crate::bytes::{count, field, pair, quad};
-use crate::kinds::{Entry, form_of, is_kind};
+use crate::bytes::{pair, quad};
+use crate::kinds::{Entry, form_of};
 use crate::whole::is_whole;
 use model::{Statement, What};
 
 // ---- what its kind and its counts say
 
-// What the statement asks for.
-#[tactic(auto, unfolding(crate::specs::Statements::what_of))]
-fn what(bytes: &[u8]) -> What
-    ensures { result ≡ what_of bytes.now }
+// What the statement asks for, none where the kind is no statement's.
+#[tactic(auto, unfolding(crate::specs::Statements::what_read, crate::specs::Statements::what_of, crate::specs::Kinds::is_kind, model::specs::Description::between))]
+fn what(bytes: &[u8]) -> Option<What>
+    ensures { result ≡ what_read bytes.now }
 {
     match pair(bytes, 2) {
-        16 => What::Insert,
-        17 => What::Delete,
-        18 => What::Update,
-        19 => What::Uplevel {
+        16 => Some(What::Insert),
+        17 => Some(What::Delete),
+        18 => Some(What::Update),
+        19 => Some(What::Uplevel {
             key: quad(bytes, 8),
             class: pair(bytes, 12),
-        },
-        _ => What::Select,
+        }),
+        20 => Some(What::Select),
+        _ => None,
     }
 }
 
@@ -38,26 +39,8 @@ fn list_end(bytes: &[u8], entry: Option<Entry>, at: usize) -> usize
 {
     match entry {
         None => at,
-        Some(entry) => at + 2 + entry.width() * count(bytes, at),
+        Some(entry) => at + 2 + entry.width() * pair(bytes, at) as usize,
     }
-}
-
-// The length that the kind and its counts ask.
-#[tactic(auto, unfolding(crate::specs::Statements::length_asked, crate::specs::Statements::list_end))]
-fn length_asked(bytes: &[u8]) -> usize
-    ensures { result ≡ length_asked bytes.now }
-{
-    let form = form_of(pair(bytes, 2));
-    let end = list_end(bytes, form.list, form.at);
-    list_end(bytes, form.conditions, end)
-}
-
-// Whether the record is whole, of a statement's kind and of the length that it asks.
-#[tactic(auto, unfolding(crate::specs::Statements::is_statement))]
-fn is_statement(bytes: &[u8]) -> bool
-    ensures { result ≡ is_statement bytes.now }
-{
-    is_whole(bytes) && is_kind(pair(bytes, 2)) && bytes.len() == length_asked(bytes)
 }
 
 // ---- its lists
@@ -68,14 +51,14 @@ fn put(bytes: &[u8], list: &mut [u32], entry: Entry, at: usize)
     requires { (at ≤ 2000) × (numbers entry ≤ length list.old) }
     ensures { list.new ≡ write_at 0 (entry_at bytes.now entry at) list.old }
 {
-    list[0] = field(bytes, at);
+    list[0] = pair(bytes, at) as u32;
     match entry {
         Entry::Level => {}
-        Entry::Borrow => list[1] = field(bytes, at + 2),
+        Entry::Borrow => list[1] = pair(bytes, at + 2) as u32,
         Entry::Cell => list[1] = quad(bytes, at + 2),
         Entry::Condition => {
-            list[1] = field(bytes, at + 2);
-            list[2] = field(bytes, at + 4);
+            list[1] = pair(bytes, at + 2) as u32;
+            list[2] = pair(bytes, at + 4) as u32;
             list[3] = quad(bytes, at + 6);
         }
     }
@@ -89,7 +72,7 @@ fn fill(bytes: &[u8], list: &mut [u32], entry: Option<Entry>, at: usize) -> usiz
     let Some(entry) = entry else {
         return 0;
     };
-    let n = count(bytes, at);
+    let n = pair(bytes, at) as usize;
     let numbers = entry.numbers();
     let width = entry.width();
     for i in 0..n {
@@ -108,16 +91,19 @@ pub fn statement(
 ) -> Result<Read, u64>
     ensures { Reading bytes.now number list.old list.new conditions.old conditions.new result }
 {
-    if !is_statement(bytes) {
+    let Some(what) = what(bytes) else {
+        return Err(number);
+    };
+    let form = form_of(what);
+    let end = list_end(bytes, form.list, form.at);
+    if !is_whole(bytes) || bytes.len() != list_end(bytes, form.conditions, end) {
         return Err(number);
     }
-    let form = form_of(pair(bytes, 2));
-    let end = list_end(bytes, form.list, form.at);
     Ok(Read {
         statement: Statement {
             level: pair(bytes, 4),
             relation: pair(bytes, 6),
-            what: what(bytes),
+            what,
         },
         listed: fill(bytes, list, form.list, form.at),
         tested: fill(bytes, conditions, form.conditions, end),

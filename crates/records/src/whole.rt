@@ -2,7 +2,7 @@
 ghost use Rattle.std.specs.Prelude.{◌≡◌};
 ghost use Rattle.records.specs.Record.{whole as whole_of, follows as follows_of, kind_after};
 
-use crate::bytes::{count, pair};
+use crate::bytes::pair;
 use crate::kinds::is_kind;
 
 // Whether a record is neither cut nor longer than its header says, with a body of at most 1,024 bytes.
@@ -10,7 +10,7 @@ use crate::kinds::is_kind;
 pub(crate) fn is_whole(bytes: &[u8]) -> bool
     ensures { result ≡ whole_of bytes.now }
 {
-    let body = count(bytes, 0);
+    let body = pair(bytes, 0) as usize;
     4 <= bytes.len() && body <= 1024 && bytes.len() == 4 + body
 }
 

@@ -9,9 +9,9 @@ pub loop-k-init : goal.loop-k-init
 loop-k-init c = numbers-start _ _ _
 
 pub loop-k-preserved : goal.loop-k-preserved
-loop-k-preserved c = numbers_more _ _ _ _ c.loop-k.invariant (omega arith) c.pair.ensures
+loop-k-preserved c = numbers_more _ _ _ _ c.loop-k.invariant (omega arith) c.pair-in-loop-k.ensures
 
 pub returns : goal.returns
 unfolding ends
-returns c = let h = c.held-columns.ensures.0 in
+returns c = let h = rw c.pair.ensures at c.min-columns.ensures in
     rw (← h) (numbers-end _ _ _ _ _ c.loop-k.invariant c.loop-k.auto.k-end c.loop-k-test.false)
