@@ -1,4 +1,4 @@
--- The laws of text in a lent buffer: one byte, a text behind a text, a number, a class, and texts one after the other.
+-- The laws of text in a lent buffer: a text behind a text, one byte, a number, what a writer writes, and texts one after the other.
 -- Assumes nothing.
 use mathlib.Core.Path.{◌≡◌, refl, sym, ◌∙◌}
 use mathlib.Core.List.{List, [], ◌∷◌, ◌++◌}
