@@ -1,4 +1,4 @@
--- The laws of text in a lent buffer: one byte, a text behind a text, a number, a class, and texts one after the other.
+-- The laws of text in a lent buffer: a text behind a text, one byte, a number, what a writer writes, and texts one after the other.
 -- Assumes nothing.
 use mathlib.Core.Path.{◌≡◌, refl, sym, ◌∙◌}
 use mathlib.Core.List.{List, [], ◌∷◌, ◌++◌}
@@ -28,6 +28,28 @@ wrote_on : {at n m : ℕ} {s t b c d : List ℕ} → Wrote at s b c n → Wrote 
 wrote_on {at} {n} {m} {s} {t} {b} {c} {d} p q =
     record { is = q.is ∙ rw (p.next-is, p.is) (sym (written-append at s t b)); next-is = q.next-is ∙ rw p.next-is (omega (arith, length-append s t)) }
 
+-- ---- one byte, where the buffer has the place and where it doesn't
+
+pub wrote-in : (at byte : ℕ) (b : List ℕ) → Wrote at (byte ∷ []) b (set b at byte) (at + 1)
+unfolding written
+wrote-in at byte b = record { is = refl; next-is = omega arith }
+
+pub wrote-out : (at byte : ℕ) (b : List ℕ) → length b ≤ at → Wrote at (byte ∷ []) b b (at + 1)
+unfolding written
+wrote-out at byte b h = record { is = sym (set_out b at byte h); next-is = omega arith }
+
+-- ---- a number
+
+pub wrote-one : (n : ℕ) {at x r : ℕ} {b c : List ℕ} → n < 10 → x ≡ digit (n % 10) → Wrote at (x ∷ []) b c r → Wrote at (decimal n) b c r × (r ≤ at + 20)
+wrote-one n h e p =
+    let m : n % 10 ≡ n = omega arith in
+    (rw (decimal-one n h, ← (rw m at e)) p, omega (arith, p.next-is))
+
+pub wrote-digit : (n : ℕ) {at m x r : ℕ} {b c d : List ℕ} → 10 ≤ n → n < 2 ^ 64 → Wrote at (decimal (n / 10)) b c m → x ≡ digit (n % 10) → Wrote m (x ∷ []) c d r → Wrote at (decimal n) b d r × (r ≤ at + 20)
+wrote-digit n {at} {m} {x} {r} {b} {c} {d} h k p e q =
+    let w : Wrote at (decimal n) b d r = rw (decimal-more n h, ← e) (wrote_on p q) in
+    (w, omega (arith, w.next-is, decimal-short n k))
+
 -- ---- what a writer writes
 
 pub writes_on : {n m : ℕ} {s t : List ℕ} {a b c : Writer} → Writes n s a b → Writes m t b c → Writes (n + m) (s ++ t) a c
@@ -36,28 +58,6 @@ writes_on p q =
 
 pub writes-within : (n : ℕ) {m : ℕ} {t : List ℕ} {a b : Writer} → m ≤ n → Writes m t a b → Writes n t a b
 writes-within n h p = record { same = p.same; wrote = p.wrote; near = omega (arith, p.near) }
-
--- one byte, where the buffer has the place and where it doesn't
-pub writes-in : (byte : ℕ) (a : Writer) → Writes 1 (byte ∷ []) a (record a { text = record a.text { now = set a.text.now a.at byte }; at = a.at + 1 })
-unfolding written
-writes-in byte a = record { same = refl; wrote = record { is = refl; next-is = omega arith }; near = omega arith }
-
-pub writes-out : (byte : ℕ) (a : Writer) → length a.text.now ≤ a.at → Writes 1 (byte ∷ []) a (record a { at = a.at + 1 })
-unfolding written
-writes-out byte a h =
-    record { same = refl; wrote = record { is = sym (set_out a.text.now a.at byte h); next-is = omega arith }; near = omega arith }
-
--- ---- a number
-
-pub writes-one : (n : ℕ) {x : ℕ} {a b : Writer} → n < 10 → x ≡ digit (n % 10) → Writes 1 (x ∷ []) a b → Writes 20 (decimal n) a b
-writes-one n h e p =
-    let m : n % 10 ≡ n = omega arith in
-    rw (decimal-one n h, ← (rw m at e)) (writes-within 20 (omega arith) p)
-
-pub writes-digit : (n : ℕ) {x : ℕ} {a b c : Writer} → 10 ≤ n → n < 2 ^ 64 → Writes 20 (decimal (n / 10)) a b → x ≡ digit (n % 10) → Writes 1 (x ∷ []) b c → Writes 20 (decimal n) a c
-writes-digit n {x} {a} {b} {c} h k p e q =
-    let w : Writes 21 (decimal n) a c = rw (decimal-more n h, ← e) (writes_on p q) in
-    record { same = w.same; wrote = w.wrote; near = omega (arith, w.wrote.next-is, decimal-short n k) }
 
 -- ---- texts one after the other
 

@@ -3,6 +3,8 @@
 
 // What the tables are like. It is public, and may be damaged: a count may be larger than its array.
 // Relations and columns are numbered from 1, levels and rows from 0; what stands at place 0 of an array by relation is not read.
+// Arrays by relation and not relations in an array, and 0 for no foreign key: the definitions of the model read them so (`of_relation`,
+// `foreign_sound`).
 #[derive(Clone, Copy)]
 pub struct Description {
     pub levels: u16,
@@ -27,7 +29,7 @@ pub enum What {
     Insert,
     Delete,
     Update,
-    // the key class is 255 where none is given
+    // the key class is 255 where none is given, as the definitions of the model read it (`entity_of`)
     Uplevel { key: u32, class: u16 },
     Select,
 }

@@ -1,4 +1,4 @@
-use Rattle.lines.proofs.writer.Writer.+decimal.Given as goal
+use Rattle.lines.proofs.writer.+decimal.Given as goal
 
 abbrev pub decreases-decimal : goal.decreases-decimal
 decreases-decimal l = l.number
