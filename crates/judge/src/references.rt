@@ -1,5 +1,5 @@
 // The references of rows.
-ghost use Rattle.std.specs.Prelude.{◌≡◌, ◌≢◌};
+ghost use Rattle.std.specs.Prelude.{◌≡◌, ◌≢◌, None};
 ghost use Rattle.bounded.specs.Bounded.{some_below};
 ghost use Rattle.model.specs.Tables.{cell, place};
 ghost use Rattle.judge.specs.Facts.{names_right, Asked};
@@ -11,7 +11,7 @@ use keys::find;
 
 // The row with a key at a level of the relation that is referred to.
 fn sought(relation: &Relation, key: u32, level: usize) -> Option<usize>
-    requires refers { relation.now.area.foreign ≢ 0 }
+    requires refers { relation.now.area.foreign ≢ None }
     requires asked { Asked (description_of relation.now) level key }
     ensures { result ≡ some_below relation.now.target.rows (place relation.now.target.rows (rows_of relation.now relation.now.target.relation level) key) }
 {
@@ -22,7 +22,7 @@ fn sought(relation: &Relation, key: u32, level: usize) -> Option<usize>
 
 // A reference (`v`, `c`) that is not null, of a row at a level.
 fn names(relation: &Relation, level: usize, v: u32, c: u8) -> bool
-    requires refers { relation.now.area.foreign ≢ 0 }
+    requires refers { relation.now.area.foreign ≢ None }
     requires asked { Asked (description_of relation.now) level v }
     ensures { result ≡ names_right (description_of relation.now) (rows_of relation.now) relation.now.target.relation level (cell v c) }
 {
@@ -50,10 +50,10 @@ pub(crate) fn reference(row: &Row) -> bool
     ensures { result ≡ reference_of row.now }
 {
     let relation = row.relation;
-    if relation.area.foreign == 0 {
+    let Some(k) = relation.area.foreign else {
         return true;
-    }
-    let place = row.start + (relation.area.foreign - 1);
+    };
+    let place = row.start + k;
     let v = relation.tables.values[place];
     if v == 0 {
         return true;

@@ -7,7 +7,7 @@ use describe::size;
 use model::Description;
 
 // A relation: its number, where its cells and its keys start, how many levels there are, how many rows each of them has and how many columns, and
-// the column of its foreign key, 0 for none.
+// the column of its foreign key, counted from 0.
 #[derive(Clone, Copy)]
 pub struct Area {
     pub relation: usize,
@@ -15,7 +15,7 @@ pub struct Area {
     pub levels: usize,
     pub rows: usize,
     pub cols: usize,
-    pub foreign: usize,
+    pub foreign: Option<usize>,
 }
 
 // Where row `i` of a level starts.
@@ -51,6 +51,6 @@ pub fn laid(d: Description, starts: [usize; 9], relation: usize) -> Area
         levels: usize::from(d.levels),
         rows: usize::from(d.rows[relation]),
         cols: usize::from(d.columns[relation]),
-        foreign: usize::from(d.foreign[relation]),
+        foreign: usize::from(d.foreign[relation]).checked_sub(1),
     }
 }
