@@ -18,12 +18,29 @@ pub struct Area {
     pub foreign: Option<usize>,
 }
 
-// Where row `i` of a level starts.
-pub fn at(area: Area, level: usize, i: usize) -> usize
-    requires { (area.start + (level * area.rows + i) * area.cols ≤ 8192) × (0 < area.cols) }
-    ensures { result ≡ area.start + (level * area.rows + i) * area.cols }
-{
-    area.start + (level * area.rows + i) * area.cols
+impl Area {
+    // Where row `i` of a level starts.
+    pub fn at(self, level: usize, i: usize) -> usize
+        requires { (self.start + (level * self.rows + i) * self.cols ≤ 8192) × (0 < self.cols) }
+        ensures { result ≡ self.start + (level * self.rows + i) * self.cols }
+    {
+        self.start + (level * self.rows + i) * self.cols
+    }
+
+    // The area of a relation; of no relation it says nothing.
+    pub fn laid(d: Description, starts: [usize; 9], relation: usize) -> Area
+        requires { relation ≤ 8 }
+        ensures { result ≡ area_of d starts relation }
+    {
+        Area {
+            relation,
+            start: starts[relation],
+            levels: usize::from(d.levels),
+            rows: usize::from(d.rows[relation]),
+            cols: usize::from(d.columns[relation]),
+            foreign: usize::from(d.foreign[relation]).checked_sub(1),
+        }
+    }
 }
 
 // Where the cells of each relation start.
@@ -38,19 +55,4 @@ pub fn starts(d: Description) -> [usize; 9]
         starts[r + 1] = sum;
     }
     starts
-}
-
-// The area of a relation; of no relation it says nothing.
-pub fn laid(d: Description, starts: [usize; 9], relation: usize) -> Area
-    requires { relation ≤ 8 }
-    ensures { result ≡ area_of d starts relation }
-{
-    Area {
-        relation,
-        start: starts[relation],
-        levels: usize::from(d.levels),
-        rows: usize::from(d.rows[relation]),
-        cols: usize::from(d.columns[relation]),
-        foreign: usize::from(d.foreign[relation]).checked_sub(1),
-    }
 }

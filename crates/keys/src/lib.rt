@@ -10,7 +10,7 @@ ghost use Rattle.bounded.specs.Bounded.{first_below, some_below, all_below};
 ghost use Rattle.model.specs.Description.{total_of, sound};
 ghost use Rattle.keys.specs.Facts.{has_key, Once, first_of, slot_of, Noted, Kept, Gathered, Starting, Keyed, distinct_keys};
 
-use crate::areas::laid;
+use crate::areas::Area;
 use model::Description;
 
 // Where the row of a key is noted, for the keys that stand from `from` on. A note only saves a search: two keys may have one place.
@@ -119,7 +119,7 @@ pub fn fill(values: &[u32], keys: &mut [u32], d: Description, starts: [usize; 9]
     ensures { Keyed d values.now d.relations keys.new }
 {
     for r in 0..usize::from(d.relations) {
-        let area = laid(d, starts, r + 1);
+        let area = Area::laid(d, starts, r + 1);
         gather(values, keys, area.start, area.levels * area.rows, area.cols);
     }
 }
@@ -131,7 +131,7 @@ pub fn relations(keys: &mut [u32], d: Description, starts: [usize; 9]) -> bool
     ensures { (result ≡ distinct_keys d keys.old) × Kept keys.old keys.new }
 {
     for r in 0..usize::from(d.relations) {
-        let area = laid(d, starts, r + 1);
+        let area = Area::laid(d, starts, r + 1);
         if !levels(keys, area.start, area.levels, area.rows) {
             return false;
         }
