@@ -5,6 +5,7 @@ ghost use Rattle.model.specs.Tables.{cell, nocell, same, empty_row};
 ghost use Rattle.judge.specs.Views.{description_of, row_of, cell_of, lender_at, lent_at, Knows, FitsColumn, FitsRow};
 
 use super::tables::{KeyedRow, Row};
+use keys::areas::at;
 use keys::find;
 use keys::words::has;
 
@@ -18,7 +19,7 @@ impl KeyedRow<'_> {
         let rows = relation.area.rows;
         let from = relation.area.start + level * rows;
         let i = find(relation.tables.keys, from, rows, self.key)?;
-        let p = relation.area.at(level, i);
+        let p = at(relation.area, level, i);
         if relation.tables.classes[p] != self.class {
             return None;
         }

@@ -6,6 +6,7 @@ ghost use Rattle.judge.specs.Facts.{names_right, Asked};
 ghost use Rattle.judge.specs.Views.{description_of, rows_of, reference_of};
 
 use super::tables::{Relation, Row};
+use keys::areas::at;
 use keys::find;
 
 impl Relation<'_> {
@@ -40,8 +41,8 @@ impl Relation<'_> {
             return false;
         };
         let classes = self.tables.classes;
-        let p = self.target.at(e, j);
-        let q = self.target.at(level, i);
+        let p = at(self.target, e, j);
+        let q = at(self.target, level, i);
         classes[p] == classes[q]
     }
 }

@@ -5,7 +5,7 @@ ghost use Rattle.judge.specs.Facts.{relation_right, tables_right};
 ghost use Rattle.judge.specs.Views.{description_of, keyed_of, rows_at, tables_of};
 
 use super::tables::{KeyedRow, Relation, Row, Tables};
-use keys::areas::Area;
+use keys::areas::{Area, at};
 
 impl KeyedRow<'_> {
     // A row with a key is right.
@@ -27,8 +27,13 @@ impl Relation<'_> {
         requires { (level < (description_of self.now).levels) × (i < self.now.area.rows) }
         ensures { result ≡ rows_at self.now level i }
     {
-        let start = self.area.at(level, i);
-        let row = Row { relation: self, level, i, start };
+        let start = at(self.area, level, i);
+        let row = Row {
+            relation: self,
+            level,
+            i,
+            start,
+        };
         let key = self.tables.values[start];
         if key == 0 {
             return row.empty();
@@ -73,7 +78,12 @@ impl Tables<'_> {
         let refers = usize::from(description.refers[r + 1]);
         let area = Area::laid(description, self.starts, r + 1);
         let target = Area::laid(description, self.starts, refers);
-        Relation { tables: self, area, target }.levels()
+        Relation {
+            tables: self,
+            area,
+            target,
+        }
+        .levels()
     }
 
     // Those of every relation are right.

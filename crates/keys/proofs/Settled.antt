@@ -8,7 +8,7 @@ use Rattle.level.proofs.Settled.{Settled}
 use Rattle.model.specs.Description.{row_count, start_of}
 use Rattle.keys.proofs.Sets.{words-one, ranges-one}
 use Rattle.keys.proofs.Starts.{starts-one}
-use Rattle.keys.proofs.areas.Area.at.Reads as at
+use Rattle.keys.proofs.areas.at.Reads as at
 use Rattle.keys.proofs.areas.starts.Reads as starts
 use Rattle.keys.proofs.areas.Area.laid.Reads as laid
 use Rattle.keys.proofs.words.has.Reads as has

@@ -13,7 +13,8 @@ ghost use Rattle.keys.specs.Facts.{has_key, Once, first_of, slot_of, Noted, Kept
 use crate::areas::Area;
 use model::Description;
 
-// Where the row of a key is noted, for the keys that stand from `from` on. A note only saves a search: two keys may have one place.
+// Where the row of a key is noted, for the keys that stand from `from` on. A note only saves a search: two keys may have one place. Notes are
+// numbers behind the keys in one buffer, 0 for none, as `Noted` and `Kept` have it.
 fn slot(from: usize, key: u32) -> usize
     requires { from ≤ 8192 }
     ensures { result ≡ slot_of from key }
@@ -21,7 +22,8 @@ fn slot(from: usize, key: u32) -> usize
     8192 + (17 * from + key as usize) % 8192
 }
 
-// The row of a key that stands at most once among `rows` keys. It has no branch on a key, so that the loop is vectorised.
+// The row of a key that stands at most once among `rows` keys. The loop has no branch on a key, so that it is vectorised: it adds up one more than
+// the number of the row that has the key, and 0 is none.
 fn search(keys: &[u32], from: usize, rows: usize, key: u32) -> Option<usize>
     requires rows_in_bounds { (from + rows ≤ length keys.now) × (rows ≤ 64) }
     requires once { Once keys.now from rows key }
