@@ -1,4 +1,3 @@
-use mathlib.Core.Path.{sym, ◌∙◌}
 use Rattle.judge.proofs.Entities.{names-zero, names-null, names-some}
 use Rattle.judge.proofs.tables.Row.reference.Goals as goal
 
