@@ -108,10 +108,10 @@ module _ (d : Description) (ss : List ℕ) (P : Starting d ss) (r : ℕ) (h : r 
   standing-at a e = rw (e, add-one r) standing
 
 module _ (d : Description) (s : sound d ≡ true) (r : ℕ) (h : r < d.relations) (a : Area) (G : Standing d r a) where
-  pub fill-room : (vs ks : List ℕ) → length vs ≡ total_of d → length ks ≡ 16384
-      → ((a.start + a.levels * a.rows ≤ length ks) × (a.start + a.levels * a.rows * a.cols ≤ length vs) × (0 < a.cols)) × ((length ks ≡ 16384) × (length vs ≤ 8192))
-  fill-room vs ks x y =
-      rw (G.start, G.rows, G.cols, G.levels, x, y) ((omega (arith, keys-room d s r h), cells-room d r h, ((sound-says d s).relations r h).keyed), (refl, (sound-says d s).total))
+  pub fill-room : (vs : List ℕ) → length vs ≡ total_of d
+      → ((a.start + a.levels * a.rows ≤ 16384) × (a.start + a.levels * a.rows * a.cols ≤ length vs) × (0 < a.cols)) × (length vs ≤ 8192)
+  fill-room vs x =
+      rw (G.start, G.rows, G.cols, G.levels, x) ((omega (arith, keys-room d s r h), cells-room d r h, ((sound-says d s).relations r h).keyed), (sound-says d s).total)
 
   pub fill_more : (vs ks xs : List ℕ) → Keyed d vs r ks → Gathered vs ks xs a.start (a.levels * a.rows) a.cols → Keyed d vs (r + 1) xs
   fill_more vs ks xs K F = keyed-more d s vs ks xs r h K (rw (← G.start, ← G.rows, ← G.cols, ← G.levels) F)
