@@ -89,28 +89,28 @@ fn distinct(keys: &mut [u32; 16384], from: usize, rows: usize) -> bool
 }
 
 // No key stands twice at a level of a relation.
-fn levels(keys: &mut [u32; 16384], start: usize, levels: usize, rows: usize) -> bool
-    requires { (start + levels * rows ≤ 8192) × (rows ≤ 64) × (levels ≤ 16) }
-    ensures { (result ≡ all_below levels (λ l. all_below rows (first_of keys.old (start + l * rows)))) × Kept keys.old keys.new }
+fn levels(keys: &mut [u32; 16384], area: Area) -> bool
+    requires { (area.start + area.levels * area.rows ≤ 8192) × (area.rows ≤ 64) × (area.levels ≤ 16) }
+    ensures { (result ≡ all_below area.levels (λ l. all_below area.rows (first_of keys.old (area.start + l * area.rows)))) × Kept keys.old keys.new }
 {
-    for l in 0..levels {
-        let from = start + l * rows;
-        if !distinct(keys, from, rows) {
+    for l in 0..area.levels {
+        let from = area.start + l * area.rows;
+        if !distinct(keys, from, area.rows) {
             return false;
         }
     }
     true
 }
 
-// The keys of a relation, from the first cell of each of its `n` rows.
-fn gather(values: &[u32], keys: &mut [u32; 16384], start: usize, n: usize, cols: usize)
-    requires n_in_bounds { (start + n ≤ 16384) × (start + n * cols ≤ length values.now) × (0 < cols) }
+// The keys of a relation, from the first cell of each of its rows.
+fn gather(values: &[u32], keys: &mut [u32; 16384], area: Area)
+    requires rows_in_bounds { (area.start + area.levels * area.rows ≤ 16384) × (area.start + area.levels * area.rows * area.cols ≤ length values.now) × (0 < area.cols) }
     requires values_len { length values.now ≤ 8192 }
-    ensures { Gathered values.now keys.old keys.new start n cols }
+    ensures { Gathered values.now keys.old keys.new area.start (area.levels * area.rows) area.cols }
 {
-    for i in 0..n {
-        let p = start + i * cols;
-        keys[start + i] = values[p];
+    for i in 0..area.levels * area.rows {
+        let p = area.start + i * area.cols;
+        keys[area.start + i] = values[p];
     }
 }
 
@@ -122,7 +122,7 @@ pub fn fill(values: &[u32], keys: &mut [u32; 16384], d: Description, starts: [us
 {
     for r in 0..usize::from(d.relations) {
         let area = Area::laid(d, starts, r + 1);
-        gather(values, keys, area.start, area.levels * area.rows, area.cols);
+        gather(values, keys, area);
     }
 }
 
@@ -133,7 +133,7 @@ pub fn relations(keys: &mut [u32; 16384], d: Description, starts: [usize; 9]) ->
 {
     for r in 0..usize::from(d.relations) {
         let area = Area::laid(d, starts, r + 1);
-        if !levels(keys, area.start, area.levels, area.rows) {
+        if !levels(keys, area) {
             return false;
         }
     }
