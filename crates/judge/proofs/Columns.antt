@@ -25,7 +25,7 @@ use Rattle.keys.specs.declared.areas.Area.{Area}
 use Rattle.keys.specs.Facts.{has_key, has_bit, Ranges, Orders}
 use Rattle.judge.specs.Facts.{Ready, InRow, Fitting, Between}
 use Rattle.keys.proofs.Sets.{bit-and}
-use Rattle.judge.proofs.Places.{spot, place_found, at-found}
+use Rattle.judge.proofs.Places.{place_found, at-found}
 
 -- ---- classes
 
@@ -103,9 +103,6 @@ module _ (d : Description) (vs cs ks : List ℕ) (a : Area) (R : Ready d vs cs k
 
   -- ---- column k + 1 of a row with a key
   module _ (l i row key kc k : ℕ) (I : InRow d vs cs a l i row key kc) (f : k < a.cols) where
-    pub at-spot : row + k < a.start + d.levels * a.rows * a.cols
-    at-spot = rw I.stands (spot d vs cs ks a R l i k I.level I.below f)
-
     pub cell-is : T a.relation l i (suc k) ≡ cell (get_or vs (row + k) 0) (get_or cs (row + k) 0)
     cell-is = rw I.stands (R.cells l i k I.level I.below f)
 
@@ -134,9 +131,6 @@ module _ (d : Description) (vs cs ks : List ℕ) (a : Area) (R : Ready d vs cs k
 
   -- ---- a cell of a row, whatever its key
   module _ (l i row k : ℕ) (h : l < d.levels) (g : i < a.rows) (s : row ≡ a.start + (l * a.rows + i) * a.cols) (f : k < a.cols) where
-    pub stood-spot : row + k < a.start + d.levels * a.rows * a.cols
-    stood-spot = rw s (spot d vs cs ks a R l i k h g f)
-
     pub stood-cell : T a.relation l i (suc k) ≡ cell (get_or vs (row + k) 0) (get_or cs (row + k) 0)
     stood-cell = rw s (R.cells l i k h g f)
 

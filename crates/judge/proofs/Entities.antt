@@ -1,10 +1,11 @@
 -- Laws of a reference and of a row: one for each way through the code.
 -- Assumes nothing.
-use mathlib.Core.Path.{◌≡◌, refl, sym, ap, subst, ◌∙◌}
+use Rattle.std.specs.Prelude.{Some, None}
+use mathlib.Core.Path.{◌≡◌, refl, sym, ap, ◌∙◌}
 use mathlib.Core.Bool.{Bool, true, false}
 use mathlib.Core.Logic.{◌≢◌}
 use mathlib.Core.List.{List}
-use Prim.Native.Nat.{ℕ, suc, ◌+◌, ◌-◌, ◌*◌, ◌≤◌, ◌<◌}
+use Prim.Native.Nat.{ℕ, suc, ◌+◌, ◌*◌, ◌≤◌, ◌<◌}
 use native.Mathlib.Omega.{arith}
 use lib.Dec.{eqb, ltb}
 use lib.ListN.{get_or}
@@ -24,9 +25,6 @@ use Rattle.keys.specs.declared.areas.Area.{Area}
 use Rattle.judge.specs.Facts.{names_right, right_row, Ready, InRow, Refers}
 use Rattle.judge.proofs.Places.{key-is, at-found, at_none, key-class, key-value}
 use Rattle.judge.proofs.Columns.{fits_out, cell-null, cell-unfit, own-place, key-cell, stood-cell}
-
-suc-pred : (f : ℕ) → f ≢ 0 → suc (f - 1) ≡ f
-suc-pred f n = omega arith
 
 module _ (d : Description) (vs cs ks : List ℕ) (a : Area) (R : Ready d vs cs ks a) where
   abbrev T : Tables
@@ -114,22 +112,19 @@ module _ (d : Description) (vs cs ks : List ℕ) (a : Area) (R : Ready d vs cs k
   column-zero l i = rows-outside d vs cs a.relation l i 0 refl
 
   module _ (l i row : ℕ) (b : Area) (G : Refers d vs cs ks a b) (h : l < d.levels) (g : i < a.rows) (s : row ≡ a.start + (l * a.rows + i) * a.cols) where
-    pub names-zero : a.foreign ≡ 0 → true ≡ reference_right d T a.relation l (T a.relation l i (foreign_of d a.relation))
+    pub names-zero : a.foreign ≡ None → true ≡ reference_right d T a.relation l (T a.relation l i (foreign_of d a.relation))
     unfolding reference_right
-    names-zero e = rw (← G.foreign, e, column-zero l i)
+    names-zero e = rw (G.none e, column-zero l i)
 
-    named-cell : a.foreign ≢ 0 → T a.relation l i (foreign_of d a.relation) ≡ cell (get_or vs (row + (a.foreign - 1)) 0) (get_or cs (row + (a.foreign - 1)) 0)
-    named-cell n =
-        let q : suc (a.foreign - 1) ≡ a.foreign = suc-pred a.foreign n in
-        rw (← G.foreign)
-        (subst (λ (x : ℕ). T a.relation l i x ≡ cell (get_or vs (row + (a.foreign - 1)) 0) (get_or cs (row + (a.foreign - 1)) 0)) q
-        (stood-cell d vs cs ks a R l i row (a.foreign - 1) h g s (omega (arith, G.column))))
+    module _ (k : ℕ) (e : a.foreign ≡ Some k) where
+      named-cell : T a.relation l i (foreign_of d a.relation) ≡ cell (get_or vs (row + k) 0) (get_or cs (row + k) 0)
+      named-cell = rw (G.some k e).0 (stood-cell d vs cs ks a R l i row k h g s (G.some k e).1)
 
-    pub names-null : a.foreign ≢ 0 → get_or vs (row + (a.foreign - 1)) 0 ≡ 0 → true ≡ reference_right d T a.relation l (T a.relation l i (foreign_of d a.relation))
-    unfolding reference_right
-    names-null n z = rw (named-cell n, z)
+      pub names-null : get_or vs (row + k) 0 ≡ 0 → true ≡ reference_right d T a.relation l (T a.relation l i (foreign_of d a.relation))
+      unfolding reference_right
+      names-null z = rw (named-cell, z)
 
-    pub names-some : {x : Bool} → a.foreign ≢ 0 → x ≡ names_right d T b.relation l (cell (get_or vs (row + (a.foreign - 1)) 0) (get_or cs (row + (a.foreign - 1)) 0))
-        → x ≡ reference_right d T a.relation l (T a.relation l i (foreign_of d a.relation))
-    unfolding reference_right names_right
-    names-some n z = rw (named-cell n, ← G.refers) z
+      pub names-some : {x : Bool} → x ≡ names_right d T b.relation l (cell (get_or vs (row + k) 0) (get_or cs (row + k) 0))
+          → x ≡ reference_right d T a.relation l (T a.relation l i (foreign_of d a.relation))
+      unfolding reference_right names_right
+      names-some z = rw (named-cell, ← G.refers) z

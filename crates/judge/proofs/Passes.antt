@@ -16,7 +16,7 @@ use Rattle.bounded.proofs.Cases.{cases, clash}
 use Rattle.bounded.proofs.First.{first-before, first_cong}
 use Rattle.bounded.proofs.All.{all-at, all_of}
 use Rattle.model.specs.declared.Description.{Description}
-use Rattle.std.specs.Prelude.{Ok, Err}
+use Rattle.std.specs.Prelude.{Ok, Err, Some, None}
 use Rattle.model.specs.declared.Fault.TheVariants as Faults
 use Rattle.model.specs.Description.{column_count, row_count, refers_of, start_of, total_of, sound}
 use Rattle.model.specs.Tables.{Cell, Tables, cell, used, place}
@@ -26,7 +26,7 @@ use Rattle.model.specs.Judge.{row_right, legal, legal_pages, judge}
 use Rattle.model.proofs.Border.{Inside, inside-shown}
 use Rattle.model.proofs.Sound.{Sound, sound-says, foreign-column, refers-lower}
 use Rattle.keys.specs.declared.areas.Area.{Area}
-use Rattle.keys.specs.Facts.{has_key, first_of, Starting, area_of, Keyed, distinct_keys}
+use Rattle.keys.specs.Facts.{has_key, first_of, Starting, column_at, area_of, Keyed, distinct_keys}
 use Rattle.judge.specs.Facts.{relation_right, tables_right, Ready, Refers, Laid}
 use Rattle.describe.proofs.Sizes.{refers-of}
 use Rattle.keys.proofs.Starts.{Standing, standing, keys-room, cells-room}
@@ -97,6 +97,20 @@ module _ (d : Description) (vs cs ks : List ℕ) (s : sound d ≡ true) (K : Key
 
 -- ---- what is known of every relation
 
+column-zero : column_at 0 ≡ None
+unfolding column_at
+column-zero = refl
+
+column-none : (f : ℕ) → column_at f ≡ None → f ≡ 0
+unfolding column_at
+column-none zero e = refl
+column-none (suc k) e = let q : Some k ≡ None = e in cc
+
+column-some : (f k : ℕ) → column_at f ≡ Some k → f ≡ suc k
+unfolding column_at
+column-some zero k e = let q : None ≡ Some k = e in cc
+column-some (suc f) k e = let q : Some f ≡ Some k = e in cc
+
 module _ (d : Description) (vs cs ks ss : List ℕ) (s : sound d ≡ true) (P : Starting d ss) (K : Keyed d vs d.relations ks)
     (ev : length vs ≡ total_of d) (ec : length cs ≡ total_of d) (D : distinct_keys d ks ≡ true) where
   abbrev S : Sound d
@@ -140,10 +154,10 @@ module _ (d : Description) (vs cs ks ss : List ℕ) (s : sound d ≡ true) (P : 
             let G = standing d ss P r h in
             let e = refers-of d (suc r) (omega arith) h in
             record {
-              foreign = G.foreign;
+              none = λ z. column-none _ (sym G.foreign ∙ z);
+              some = λ k z. let q = column-some _ k (sym G.foreign ∙ z) in (q, rw G.cols (omega (arith, foreign-column d r (S.relations r h))));
               refers = e;
-              column = rw (G.foreign, G.cols) (foreign-column d r (S.relations r h));
-              ready = λ n. target (get_or d.refers (suc r) 0) (rw e ((S.relations r h).referring (λ z. n (G.foreign ∙ z))).some) (rw e (lower r h));
+              ready = λ n. target (get_or d.refers (suc r) 0) (rw e ((S.relations r h).referring (λ z. n (G.foreign ∙ rw (z, column-zero)))).some) (rw e (lower r h));
             };
         named = λ r h. let e = refers-of d (suc r) (omega arith) h in rw e (lower-eight r h);
       }

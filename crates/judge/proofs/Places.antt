@@ -1,16 +1,15 @@
 -- Where a relation's rows and keys stand, and what the row of an entity at a level lends.
 -- Assumes nothing.
 use Rattle.std.specs.Prelude.{if◌then◌else◌, Option, Some, None}
-use mathlib.Core.Path.{◌≡◌, refl, sym, ap, subst, ◌∙◌}
-use mathlib.Core.Logic.{◌≢◌, ◌⊎◌, inl, inr, ⊎_elim}
+use mathlib.Core.Path.{◌≡◌, refl, sym, ap, ◌∙◌}
+use mathlib.Core.Logic.{◌≢◌, inl}
 use mathlib.Core.List.{List}
 use Prim.Native.Nat.{ℕ, suc, ◌+◌, ◌*◌, ◌≤◌, ◌<◌}
 use native.Mathlib.Nat.{mul-le-mul_right, lt_of_lt_of_le, add-zero}
 use native.Mathlib.Omega.{arith}
 use lib.Dec.{eqb, ltb}
-use lib.ListN.{get_or, set, length-set, replicate, length-replicate, get_or-replicate}
-use lib.Seq.{get_or-set_same, get_or-set_other}
-use borrow.Author.Tests.{lt-ltb, le-ltb, ltb-true, ltb-false, eq-eqb, ne_eqb, eqb-true, eqb-false}
+use lib.ListN.{get_or, replicate, length-replicate, get_or-replicate}
+use borrow.Author.Tests.{lt-ltb, le-ltb, ltb-true, ltb-false, eq-eqb, ne_eqb, eqb-true}
 use Rattle.bounded.specs.Bounded.{first_below}
 use Rattle.bounded.proofs.Cases.{cases}
 use Rattle.bounded.proofs.First.{first_holds, first_cong}
@@ -34,10 +33,6 @@ pub record Lent (d : Description) (T : Tables) (a : Area) (l v c k p : ℕ) : Ty
 module _ (d : Description) (vs cs ks : List ℕ) (a : Area) (R : Ready d vs cs ks a) where
   abbrev T : Tables
   T = rows_in d vs cs
-
-  -- the keys of a level
-  pub block : (l : ℕ) → l < d.levels → a.start + l * a.rows + a.rows ≤ 8192
-  block l h = omega (arith, mul-le-mul_right a.rows h, R.keys)
 
   pub spot : (l i k : ℕ) → l < d.levels → i < a.rows → k < a.cols → a.start + (l * a.rows + i) * a.cols + k < a.start + d.levels * a.rows * a.cols
   spot l i k h g f = omega (arith, digit_lt (digit_lt h g) f)
@@ -140,17 +135,5 @@ same_class v w c = cases (eqb v w) (λ t. rw (t, eq-eqb c c refl)) (λ t. rw t)
 
 -- ---- the cache
 module _ (d : Description) (U : Tables) (a : Area) (v c : ℕ) (few : d.levels ≤ 16) where
-  pub known-set : (l : ℕ) (p : Option ℕ) (s : List (Option (Option ℕ))) → Known d U a v c s → l < d.levels → p ≡ lender_of U a v c l → Known d U a v c (set s l (Some p))
-  known-set l p s K g e =
-      record {
-        size = length-set s l (Some p) ∙ K.size;
-        right = λ k b. cases (eqb l k)
-            (λ t. let q = eqb-true l k t in inr (subst (λ (x : ℕ). get_or (set s l (Some p)) x None ≡ Some (lender_of U a v c x)) q (get_or-set_same s l (Some p) None (omega (arith, K.size)) ∙ ap Some e)))
-            (λ t. subst (λ (x : Option (Option ℕ)). (x ≡ None) ⊎ (x ≡ Some (lender_of U a v c k))) (sym (get_or-set_other s l k (Some p) None (λ q. eqb-false l k t (sym q)))) (K.right k b));
-      }
-
   pub known-none : Known d U a v c (replicate 16 None)
   known-none = record { size = length-replicate {A = Option (Option ℕ)} 16 None; right = λ e g. inl (get_or-replicate {A = Option (Option ℕ)} 16 e None None (lt_of_lt_of_le g few)) }
-
-  pub known-is : (l : ℕ) (s : List (Option (Option ℕ))) {p : Option ℕ} → Known d U a v c s → l < d.levels → get_or s l None ≡ Some p → p ≡ lender_of U a v c l
-  known-is l s {p} K h e = ⊎_elim (λ q. let r : Some p ≡ None = sym e ∙ q in cc) (λ q. let r : Some p ≡ Some (lender_of U a v c l) = sym e ∙ q in cc) (K.right l h)

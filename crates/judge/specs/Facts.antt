@@ -62,10 +62,10 @@ pub record Ready (d : Description) (vs cs ks : List ℕ) (a : Area) : Type 0 whe
 
 -- the relation b that a's foreign key refers to
 pub record Refers (d : Description) (vs cs ks : List ℕ) (a b : Area) : Type 0 where
-  pub foreign : a.foreign ≡ foreign_of d a.relation
+  pub none : a.foreign ≡ None → foreign_of d a.relation ≡ 0
+  pub some : (k : ℕ) → a.foreign ≡ Some k → (foreign_of d a.relation ≡ suc k) × (k < a.cols)
   pub refers : b.relation ≡ refers_of d a.relation
-  pub column : a.foreign ≤ a.cols
-  pub ready : a.foreign ≢ 0 → Ready d vs cs ks b
+  pub ready : a.foreign ≢ None → Ready d vs cs ks b
 
 -- what is known of every relation once it is known that no key stands twice
 pub record Laid (d : Description) (vs cs ks ss : List ℕ) : Type 0 where

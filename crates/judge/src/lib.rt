@@ -33,7 +33,7 @@ fn legal(description: Description, order: [[bool; 16]; 16], values: &[u32], clas
     if !keys::relations(&mut keys, description, starts) {
         return false;
     }
-    rows::tables(&Tables {
+    let tables = Tables {
         description: &description,
         values,
         classes,
@@ -42,7 +42,8 @@ fn legal(description: Description, order: [[bool; 16]; 16], values: &[u32], clas
         below: &below,
         above: &above,
         starts,
-    })
+    };
+    tables.relations()
 }
 
 // What is to be said of a description and two buffers, where the order is laid out: the first of what is wrong.

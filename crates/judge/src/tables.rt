@@ -6,13 +6,13 @@ use keys::areas::Area;
 use model::Description;
 
 // The values and classes of the cells, the keys of the rows side by side, the ranges and the order as words, and where each relation starts.
-// Only the contracts name all of the description: the functions below read of it how many relations there are and to which they refer.
+// The description is there for the contracts: code reads of it only what lays out a relation.
 #[derive(Clone, Copy)]
 pub(crate) struct Tables<'a> {
     pub description: &'a Description,
     pub values: &'a [u32],
     pub classes: &'a [u8],
-    pub keys: &'a [u32],
+    pub keys: &'a [u32; 16384],
     pub ranges: &'a [u16],
     pub below: &'a [u16],
     pub above: &'a [u16],

@@ -10,7 +10,7 @@ use Rattle.keys.proofs.Sets.{words-one, ranges-one}
 use Rattle.keys.proofs.Starts.{starts-one}
 use Rattle.keys.proofs.areas.at.Reads as at
 use Rattle.keys.proofs.areas.starts.Reads as starts
-use Rattle.keys.proofs.areas.laid.Reads as laid
+use Rattle.keys.proofs.areas.Area.laid.Reads as laid
 use Rattle.keys.proofs.words.has.Reads as has
 use Rattle.keys.proofs.words.words.Reads as words
 use Rattle.keys.proofs.words.ranges.Reads as ranges

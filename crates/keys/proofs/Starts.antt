@@ -1,9 +1,10 @@
 -- Where the cells of each relation stand, and the keys that are gathered from them.
 -- Assumes nothing.
-use mathlib.Core.Path.{◌≡◌, refl, sym, ◌∙◌}
+use Rattle.std.specs.Prelude.{Option, Some, None, SomeIff}
+use mathlib.Core.Path.{◌≡◌, refl, sym, ap, ◌∙◌}
 use mathlib.Core.Bool.{Bool, true}
 use mathlib.Core.List.{List}
-use Prim.Native.Nat.{ℕ, zero, suc, ◌+◌, ◌*◌, ◌≤◌, ◌<◌}
+use Prim.Native.Nat.{ℕ, zero, suc, ◌+◌, ◌-◌, ◌*◌, ◌≤◌, ◌<◌}
 use native.Mathlib.Nat.{le-mul_of_pos_right}
 use native.Mathlib.Numerals.{add-one}
 use native.Mathlib.Omega.{arith}
@@ -19,7 +20,7 @@ use Rattle.model.specs.Description.{column_count, row_count, foreign_of, size_of
 use Rattle.model.proofs.Sound.{sound-says}
 use Rattle.describe.proofs.Sizes.{row_count_lem, column-count, foreign-of}
 use Rattle.keys.specs.declared.areas.Area.{Area}
-use Rattle.keys.specs.Facts.{first_of, Starting, area_of, Gathered, Keyed}
+use Rattle.keys.specs.Facts.{first_of, Starting, column_at, area_of, Gathered, Keyed}
 
 pub noughts : (n k : ℕ) → get_or {A = ℕ} (replicate n 0) k 0 ≡ 0
 noughts zero k = refl
@@ -75,13 +76,20 @@ module _ (d : Description) where
 
 -- ---- what stands where code reads it
 
+pub column-sub : (x : Option ℕ) (f : ℕ) → SomeIff x (1 ≤ f) (f - 1) → x ≡ column_at f
+unfolding column_at
+column-sub None zero h = refl
+column-sub None (suc f) h = absurd (h (omega arith))
+column-sub (Some x) zero h = let q = h.0 in absurd (omega arith)
+column-sub (Some x) (suc f) h = let q = h.1 in ap Some (omega arith)
+
 pub record Standing (d : Description) (r : ℕ) (a : Area) : Type 0 where
   pub relation : a.relation ≡ suc r
   pub start : a.start ≡ start_of d (suc r)
   pub levels : a.levels ≡ d.levels
   pub rows : a.rows ≡ row_count d (suc r)
   pub cols : a.cols ≡ column_count d (suc r)
-  pub foreign : a.foreign ≡ foreign_of d (suc r)
+  pub foreign : a.foreign ≡ column_at (foreign_of d (suc r))
 
 module _ (d : Description) (ss : List ℕ) (P : Starting d ss) (r : ℕ) (h : r < d.relations) where
   pub standing : Standing d r (area_of d ss (suc r))
@@ -93,17 +101,17 @@ module _ (d : Description) (ss : List ℕ) (P : Starting d ss) (r : ℕ) (h : r 
         levels = refl;
         rows = row_count_lem d (suc r) l h;
         cols = column-count d (suc r) l h;
-        foreign = foreign-of d (suc r) l h;
+        foreign = ap column_at (foreign-of d (suc r) l h);
       }
 
   pub standing-at : (a : Area) → a ≡ area_of d ss (r + 1) → Standing d r a
   standing-at a e = rw (e, add-one r) standing
 
 module _ (d : Description) (s : sound d ≡ true) (r : ℕ) (h : r < d.relations) (a : Area) (G : Standing d r a) where
-  pub fill-room : (vs ks : List ℕ) → length vs ≡ total_of d → length ks ≡ 16384
-      → ((a.start + a.levels * a.rows ≤ length ks) × (a.start + a.levels * a.rows * a.cols ≤ length vs) × (0 < a.cols)) × ((length ks ≡ 16384) × (length vs ≤ 8192))
-  fill-room vs ks x y =
-      rw (G.start, G.rows, G.cols, G.levels, x, y) ((omega (arith, keys-room d s r h), cells-room d r h, ((sound-says d s).relations r h).keyed), (refl, (sound-says d s).total))
+  pub fill-room : (vs : List ℕ) → length vs ≡ total_of d
+      → ((a.start + a.levels * a.rows ≤ 16384) × (a.start + a.levels * a.rows * a.cols ≤ length vs) × (0 < a.cols)) × (length vs ≤ 8192)
+  fill-room vs x =
+      rw (G.start, G.rows, G.cols, G.levels, x) ((omega (arith, keys-room d s r h), cells-room d r h, ((sound-says d s).relations r h).keyed), (sound-says d s).total)
 
   pub fill_more : (vs ks xs : List ℕ) → Keyed d vs r ks → Gathered vs ks xs a.start (a.levels * a.rows) a.cols → Keyed d vs (r + 1) xs
   fill_more vs ks xs K F = keyed-more d s vs ks xs r h K (rw (← G.start, ← G.rows, ← G.cols, ← G.levels) F)

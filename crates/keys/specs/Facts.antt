@@ -1,6 +1,6 @@
 -- What is laid out of a description and its tables before the rows are judged.
 -- Assumes nothing: these are definitions and statements.
-use Rattle.std.specs.Prelude.{◌≡◌, Bool, true, ◌&&◌, ◌||◌, ◌≢◌, List, ℕ, suc, ◌+◌, ◌*◌, ◌/◌, ◌%◌, ◌^◌, ◌≤◌, ◌<◌, eqb, ltb, length, get_or, if◌then◌else◌}
+use Rattle.std.specs.Prelude.{◌≡◌, Bool, true, ◌&&◌, ◌||◌, ◌≢◌, List, ℕ, zero, suc, ◌+◌, ◌*◌, ◌/◌, ◌%◌, ◌^◌, ◌≤◌, ◌<◌, eqb, ltb, length, get_or, if◌then◌else◌, Option, Some, None}
 use Rattle.bounded.specs.Bounded.{first_below, all_below}
 use Rattle.level.specs.Order.{entry_of}
 use Rattle.model.specs.declared.Description.{Description}
@@ -15,6 +15,11 @@ pub record Starting (d : Description) (ss : List ℕ) : Type 0 where
   pub right : (r : ℕ) → r ≤ d.relations → get_or ss r 0 ≡ start_of d r
   pub rest : (r : ℕ) → d.relations < r → get_or ss r 0 ≡ 0
 
+-- column k as code counts it, from 0; 0 is no column
+unfoldable pub column_at : ℕ → Option ℕ
+column_at zero = None
+column_at (suc k) = Some k
+
 abbrev pub area_of : Description → List ℕ → ℕ → Area
 area_of d ss r =
     record {
@@ -23,7 +28,7 @@ area_of d ss r =
       levels = d.levels;
       rows = get_or d.rows r 0;
       cols = get_or d.columns r 0;
-      foreign = get_or d.foreign r 0;
+      foreign = column_at (get_or d.foreign r 0);
     }
 
 -- ---- keys

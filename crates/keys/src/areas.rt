@@ -7,7 +7,7 @@ use describe::size;
 use model::Description;
 
 // A relation: its number, where its cells and its keys start, how many levels there are, how many rows each of them has and how many columns, and
-// the column of its foreign key, 0 for none.
+// the column of its foreign key, counted from 0.
 #[derive(Clone, Copy)]
 pub struct Area {
     pub relation: usize,
@@ -15,10 +15,27 @@ pub struct Area {
     pub levels: usize,
     pub rows: usize,
     pub cols: usize,
-    pub foreign: usize,
+    pub foreign: Option<usize>,
 }
 
-// Where row `i` of a level starts.
+impl Area {
+    // The area of a relation; of no relation it says nothing.
+    pub fn laid(d: Description, starts: [usize; 9], relation: usize) -> Area
+        requires { relation ≤ 8 }
+        ensures { result ≡ area_of d starts relation }
+    {
+        Area {
+            relation,
+            start: starts[relation],
+            levels: usize::from(d.levels),
+            rows: usize::from(d.rows[relation]),
+            cols: usize::from(d.columns[relation]),
+            foreign: usize::from(d.foreign[relation]).checked_sub(1),
+        }
+    }
+}
+
+// Where row `i` of a level starts. It is no method, since `tests/contracts` knows by its path what another crate calls.
 pub fn at(area: Area, level: usize, i: usize) -> usize
     requires { (area.start + (level * area.rows + i) * area.cols ≤ 8192) × (0 < area.cols) }
     ensures { result ≡ area.start + (level * area.rows + i) * area.cols }
@@ -38,19 +55,4 @@ pub fn starts(d: Description) -> [usize; 9]
         starts[r + 1] = sum;
     }
     starts
-}
-
-// The area of a relation; of no relation it says nothing.
-pub fn laid(d: Description, starts: [usize; 9], relation: usize) -> Area
-    requires { relation ≤ 8 }
-    ensures { result ≡ area_of d starts relation }
-{
-    Area {
-        relation,
-        start: starts[relation],
-        levels: usize::from(d.levels),
-        rows: usize::from(d.rows[relation]),
-        cols: usize::from(d.columns[relation]),
-        foreign: usize::from(d.foreign[relation]),
-    }
 }

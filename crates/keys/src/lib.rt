@@ -10,10 +10,11 @@ ghost use Rattle.bounded.specs.Bounded.{first_below, some_below, all_below};
 ghost use Rattle.model.specs.Description.{total_of, sound};
 ghost use Rattle.keys.specs.Facts.{has_key, Once, first_of, slot_of, Noted, Kept, Gathered, Starting, Keyed, distinct_keys};
 
-use crate::areas::laid;
+use crate::areas::Area;
 use model::Description;
 
-// Where the row of a key is noted, for the keys that stand from `from` on. A note only saves a search: two keys may have one place.
+// Where the row of a key is noted, for the keys that stand from `from` on. A note only saves a search: two keys may have one place. Notes are
+// numbers behind the keys in one buffer, 0 for none, as `Noted` and `Kept` have it.
 fn slot(from: usize, key: u32) -> usize
     requires { from ≤ 8192 }
     ensures { result ≡ slot_of from key }
@@ -21,9 +22,10 @@ fn slot(from: usize, key: u32) -> usize
     8192 + (17 * from + key as usize) % 8192
 }
 
-// The row of a key that stands at most once among `rows` keys. It has no branch on a key, so that the loop is vectorised.
-fn search(keys: &[u32], from: usize, rows: usize, key: u32) -> Option<usize>
-    requires rows_in_bounds { (from + rows ≤ length keys.now) × (rows ≤ 64) }
+// The row of a key that stands at most once among `rows` keys. The loop has no branch on a key, so that it is vectorised: it adds up one more than
+// the number of the row that has the key, and 0 is none.
+fn search(keys: &[u32; 16384], from: usize, rows: usize, key: u32) -> Option<usize>
+    requires rows_in_bounds { (from + rows ≤ 16384) × (rows ≤ 64) }
     requires once { Once keys.now from rows key }
     ensures { result ≡ some_below rows (first_below rows (has_key keys.now from key)) }
 {
@@ -42,8 +44,8 @@ fn search(keys: &[u32], from: usize, rows: usize, key: u32) -> Option<usize>
 }
 
 // The same row: the one that is noted where it has the key, else the one that is found. A note is 64 more than the row, and 0 is no note.
-pub fn find(keys: &[u32], from: usize, rows: usize, key: u32) -> Option<usize>
-    requires rows_bound { (from + rows ≤ 8192) × (rows ≤ 64) × (length keys.now ≡ 16384) }
+pub fn find(keys: &[u32; 16384], from: usize, rows: usize, key: u32) -> Option<usize>
+    requires rows_bound { (from + rows ≤ 8192) × (rows ≤ 64) }
     requires once { Once keys.now from rows key }
     ensures { result ≡ some_below rows (first_below rows (has_key keys.now from key)) }
 {
@@ -56,8 +58,8 @@ pub fn find(keys: &[u32], from: usize, rows: usize, key: u32) -> Option<usize>
 }
 
 // The key of row `i` is 0, or no row before has it. A key whose place has no note is new, and is noted.
-fn fresh(keys: &mut [u32], from: usize, rows: usize, i: usize) -> bool
-    requires rows_bound { (from + rows ≤ 8192) × (rows ≤ 64) × (i < rows) × (length keys.old ≡ 16384) }
+fn fresh(keys: &mut [u32; 16384], from: usize, rows: usize, i: usize) -> bool
+    requires rows_bound { (from + rows ≤ 8192) × (rows ≤ 64) × (i < rows) }
     requires firsts { (all_below i (first_of keys.old from) ≡ true) × Noted keys.old from i }
     ensures { (result ≡ first_of keys.old from i) × Kept keys.old keys.new × Noted keys.new from (i + 1) }
 {
@@ -74,8 +76,8 @@ fn fresh(keys: &mut [u32], from: usize, rows: usize, i: usize) -> bool
 }
 
 // No key stands twice among the keys of a level.
-fn distinct(keys: &mut [u32], from: usize, rows: usize) -> bool
-    requires { (from + rows ≤ 8192) × (rows ≤ 64) × (length keys.old ≡ 16384) }
+fn distinct(keys: &mut [u32; 16384], from: usize, rows: usize) -> bool
+    requires { (from + rows ≤ 8192) × (rows ≤ 64) }
     ensures { (result ≡ all_below rows (first_of keys.old from)) × Kept keys.old keys.new }
 {
     for i in 0..rows {
@@ -87,52 +89,51 @@ fn distinct(keys: &mut [u32], from: usize, rows: usize) -> bool
 }
 
 // No key stands twice at a level of a relation.
-fn levels(keys: &mut [u32], start: usize, levels: usize, rows: usize) -> bool
-    requires { (start + levels * rows ≤ 8192) × (rows ≤ 64) × (levels ≤ 16) × (length keys.old ≡ 16384) }
-    ensures { (result ≡ all_below levels (λ l. all_below rows (first_of keys.old (start + l * rows)))) × Kept keys.old keys.new }
+fn levels(keys: &mut [u32; 16384], area: Area) -> bool
+    requires { (area.start + area.levels * area.rows ≤ 8192) × (area.rows ≤ 64) × (area.levels ≤ 16) }
+    ensures { (result ≡ all_below area.levels (λ l. all_below area.rows (first_of keys.old (area.start + l * area.rows)))) × Kept keys.old keys.new }
 {
-    for l in 0..levels {
-        let from = start + l * rows;
-        if !distinct(keys, from, rows) {
+    for l in 0..area.levels {
+        let from = area.start + l * area.rows;
+        if !distinct(keys, from, area.rows) {
             return false;
         }
     }
     true
 }
 
-// The keys of a relation, from the first cell of each of its `n` rows.
-fn gather(values: &[u32], keys: &mut [u32], start: usize, n: usize, cols: usize)
-    requires n_in_bounds { (start + n ≤ length keys.old) × (start + n * cols ≤ length values.now) × (0 < cols) }
-    requires keys_len { (length keys.old ≡ 16384) × (length values.now ≤ 8192) }
-    ensures { Gathered values.now keys.old keys.new start n cols }
+// The keys of a relation, from the first cell of each of its rows.
+fn gather(values: &[u32], keys: &mut [u32; 16384], area: Area)
+    requires rows_in_bounds { (area.start + area.levels * area.rows ≤ 16384) × (area.start + area.levels * area.rows * area.cols ≤ length values.now) × (0 < area.cols) }
+    requires values_len { length values.now ≤ 8192 }
+    ensures { Gathered values.now keys.old keys.new area.start (area.levels * area.rows) area.cols }
 {
-    for i in 0..n {
-        let p = start + i * cols;
-        keys[start + i] = values[p];
+    for i in 0..area.levels * area.rows {
+        let p = area.start + i * area.cols;
+        keys[area.start + i] = values[p];
     }
 }
 
 // The keys of every relation, each from where the relation's cells start in `values`.
-pub fn fill(values: &[u32], keys: &mut [u32], d: Description, starts: [usize; 9])
+pub fn fill(values: &[u32], keys: &mut [u32; 16384], d: Description, starts: [usize; 9])
     requires sound_description { (sound d ≡ true) × Starting d starts }
-    requires values_len { (length values.now ≡ total_of d) × (length keys.old ≡ 16384) }
+    requires values_len { length values.now ≡ total_of d }
     ensures { Keyed d values.now d.relations keys.new }
 {
     for r in 0..usize::from(d.relations) {
-        let area = laid(d, starts, r + 1);
-        gather(values, keys, area.start, area.levels * area.rows, area.cols);
+        let area = Area::laid(d, starts, r + 1);
+        gather(values, keys, area);
     }
 }
 
 // No key stands twice at a level of any relation.
-pub fn relations(keys: &mut [u32], d: Description, starts: [usize; 9]) -> bool
+pub fn relations(keys: &mut [u32; 16384], d: Description, starts: [usize; 9]) -> bool
     requires sound_description { (sound d ≡ true) × Starting d starts }
-    requires keys_len { length keys.old ≡ 16384 }
     ensures { (result ≡ distinct_keys d keys.old) × Kept keys.old keys.new }
 {
     for r in 0..usize::from(d.relations) {
-        let area = laid(d, starts, r + 1);
-        if !levels(keys, area.start, area.levels, area.rows) {
+        let area = Area::laid(d, starts, r + 1);
+        if !levels(keys, area) {
             return false;
         }
     }

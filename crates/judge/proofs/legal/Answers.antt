@@ -21,4 +21,4 @@ invariant_of-tables c = let K = c.relations.ensures in
     }
 
 pub returns : goal.returns
-returns c = c.tables.ensures ∙ tables-legal _ _ _
+returns c = c.relations-2.ensures ∙ tables-legal _ _ _

@@ -28,7 +28,7 @@ pub returns-then-keys-place-eq0 : goal.returns-then-keys-place-eq0
 unfolding first_of
 returns-then-keys-place-eq0 c = let e = c.slot-place.ensures in
     let h : c.args.from + c.args.i < 8192 = omega arith in
-    rw e (fresh-new c.args.keys.now c.args.from c.args.i (64 + c.args.i) h c.requires.rows_bound.3 c.if-key-eq0.false (rw e at c.if-keys-place-eq0.true) (λ z. absurd (omega arith)) c.requires.firsts.1)
+    rw e (fresh-new c.args.keys.now c.args.from c.args.i (64 + c.args.i) h c.told-keys c.if-key-eq0.false (rw e at c.if-keys-place-eq0.true) (λ z. absurd (omega arith)) c.requires.firsts.1)
 
 pub search-requires : goal.search-requires
 search-requires c = record { rows_in_bounds = (omega arith, omega arith); once = once-of _ _ _ _ c.requires.firsts.0 c.if-key-eq0.false }

@@ -3,4 +3,4 @@ use Rattle.keys.proofs.gather.Given as goal
 
 abbrev pub invariant-loop-i : goal.invariant-loop-i
 invariant-loop-i l =
-    Gathered l.values l.initial.keys l.keys l.start l.i l.cols
+    Gathered l.values l.initial.keys l.keys l.area.start l.i l.area.cols

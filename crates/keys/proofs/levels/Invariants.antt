@@ -7,4 +7,4 @@ use Rattle.keys.proofs.levels.Given as goal
 
 abbrev pub invariant-loop-l : goal.invariant-loop-l
 invariant-loop-l l =
-    (all_below l.l (λ m. all_below l.rows (first_of l.initial.keys (l.start + m * l.rows))) ≡ true) × Kept l.initial.keys l.keys
+    (all_below l.l (λ m. all_below l.area.rows (first_of l.initial.keys (l.area.start + m * l.area.rows))) ≡ true) × Kept l.initial.keys l.keys

@@ -16,7 +16,7 @@ laid-area-requires c = omega (arith, (sound-says _ c.requires.sound_description.
 pub levels-requires : goal.levels-requires
 levels-requires c = let l = c.loop-r in
     let R = levels-room _ c.requires.sound_description.0 l.r (rw c.from-r-end.ensures at c.loop-r-test.true) _ (standing-at _ _ c.requires.sound_description.1 l.r (rw c.from-r-end.ensures at c.loop-r-test.true) _ c.laid-area.ensures) in
-    (R.0, R.1, R.2, l.invariant.1.long ∙ c.requires.keys_len)
+    R
 
 pub returns-then-not-levels : goal.returns-then-not-levels
 unfolding distinct_keys

@@ -1,9 +1,0 @@
-use mathlib.Core.Path.{ap, sym, ◌∙◌}
-use Rattle.bounded.specs.Bounded.{some_below}
-use Rattle.judge.proofs.Places.{place_found}
-use Rattle.judge.proofs.references.sought.Goals as goal
-
-pub returns : goal.returns
-returns c =
-    let ready = c.args.relation.now.refers.ready c.requires.refers in
-    c.find.ensures ∙ ap (some_below c.args.relation.now.target.rows) (sym (place_found _ _ _ _ _ ready c.args.level c.args.key c.requires.asked.level))
