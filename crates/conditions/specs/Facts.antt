@@ -1,6 +1,6 @@
 -- What the functions on conditions know and promise.
 -- Assumes nothing: these are definitions and statements.
-use Rattle.std.specs.Prelude.{◌≡◌, Bool, true, false, not, ◌&&◌, List, ℕ, ◌≤◌, ◌<◌, eqb, leb, length, get_or, if◌then◌else◌, Option, MatchOption}
+use Rattle.std.specs.Prelude.{◌≡◌, Bool, true, false, not, ◌&&◌, List, ℕ, ◌≤◌, ◌<◌, eqb, leb, length, get_or, if◌then◌else◌, Option, MatchOption, Result, MatchResult}
 use Rattle.bounded.specs.Bounded.{count_below}
 use Rattle.model.specs.declared.Description.{Description}
 use Rattle.model.specs.Description.{between, over, row_count, column_count}
@@ -11,6 +11,7 @@ use Rattle.cells.specs.Changed.{value_at}
 use Rattle.asked.specs.Known.{Ordered}
 use Rattle.conditions.specs.declared.condition.Asked.{Asked}
 use Rattle.conditions.specs.declared.condition.Test.{Test}
+use Rattle.conditions.specs.declared.condition.NoTest.{NoTest}
 use Rattle.conditions.specs.declared.condition.Test.TheVariants as Tests
 
 -- the number that stands for a test
@@ -30,8 +31,8 @@ abbrev pub condition_of : List ℕ → Condition
 condition_of q = record { column = get_or q 0 0; mark = get_or q 1 0; test = get_or q 2 0; constant = get_or q 3 0 }
 
 -- the test that a number stands for, where it stands for one
-abbrev pub ReadTest : ℕ → Option Test → Type 0
-ReadTest n t = MatchOption t (between 1 5 n ≡ false) (λ t. number_of t ≡ n)
+abbrev pub Numbers : ℕ → Result Test NoTest → Type 0
+Numbers n t = MatchResult t (λ t. number_of t ≡ n) (λ e. between 1 5 n ≡ false)
 
 -- what a condition asks, where its mark and its test are some
 abbrev pub Read : Condition → Option Asked → Type 0

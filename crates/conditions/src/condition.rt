@@ -2,7 +2,7 @@
 ghost use Rattle.std.specs.Prelude.{◌≡◌};
 ghost use Rattle.model.specs.Conditions.{constant_formed, condition_formed};
 ghost use Rattle.model.specs.Description.{column_count};
-ghost use Rattle.conditions.specs.Facts.{Read, ReadTest, asks, condition_of, number_of, passes_by};
+ghost use Rattle.conditions.specs.Facts.{Read, Numbers, asks, condition_of, number_of, passes_by};
 
 use model::Description;
 
@@ -16,22 +16,29 @@ pub(crate) enum Test {
     Null,
 }
 
-impl Test {
-    // The test that a number stands for.
+// A number that stands for no test.
+#[derive(Clone, Copy)]
+pub(crate) struct NoTest;
+
+impl TryFrom<u32> for Test {
+    type Error = NoTest;
+
+    ghost try_from_gives = { Numbers };
+
     #[tactic(auto, unfolding(crate::specs::Facts::number_of))]
-    fn read(number: u32) -> Option<Test>
-        ensures { ReadTest number result }
-    {
+    fn try_from(number: u32) -> Result<Test, NoTest> {
         match number {
-            1 => Some(Test::Equal),
-            2 => Some(Test::NotEqual),
-            3 => Some(Test::Less),
-            4 => Some(Test::AtMost),
-            5 => Some(Test::Null),
-            _ => None,
+            1 => Ok(Test::Equal),
+            2 => Ok(Test::NotEqual),
+            3 => Ok(Test::Less),
+            4 => Ok(Test::AtMost),
+            5 => Ok(Test::Null),
+            _ => Err(NoTest),
         }
     }
+}
 
+impl Test {
     // It is passed, where it is known whether what is tested is null, whether it is the constant, and whether it is at most the constant.
     #[tactic(auto, unfolding(crate::specs::Facts::passes_by, crate::specs::Facts::number_of))]
     pub(crate) fn passes(self, null: bool, equal: bool, most: bool) -> bool
@@ -65,7 +72,7 @@ impl Asked {
         if 1 < mark {
             return None;
         }
-        let test = Test::read(test)?;
+        let test = Test::try_from(test).ok()?;
         Some(Asked {
             column,
             of_class: mark == 1,
