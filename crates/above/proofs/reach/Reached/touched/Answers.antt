@@ -15,12 +15,12 @@ returns-then-key-eq0 c = touched-unused _ _ _ _ _ _ _ _ c.value_at-key.ensures c
 pub returns-in_default : goal.returns-in_default
 returns-in_default c = touched_none _ _ _ _ _ _ _ _ c.value_at-key.ensures c.if-key-eq0.false refl (none-below _ _ c.in_default.ensures)
 
-pub bounds-chosen-own : goal.bounds-chosen-own
-bounds-chosen-own c = let f = some-below _ _ c.in-Some.ensures in omega (arith, f, c.args.self.part.laid.few, c.args.self.part.laid.rows)
+pub bounds-plan-there : goal.bounds-plan-there
+bounds-plan-there c = let f = some-below _ _ c.in-Some.ensures in omega (arith, f, c.args.self.part.laid.few, c.args.self.part.laid.rows)
 
-pub returns-then-not-chosen-own : goal.returns-then-not-chosen-own
-returns-then-not-chosen-own c = let f = some-below _ _ c.in-Some.ensures in
-    touched-unchosen _ _ _ _ _ _ _ _ c.value_at-key.ensures c.if-key-eq0.false f.0 (omega (arith, f)) c.if-not-chosen-own.true
+pub returns-then-not-plan-there : goal.returns-then-not-plan-there
+returns-then-not-plan-there c = let f = some-below _ _ c.in-Some.ensures in
+    touched-unchosen _ _ _ _ _ _ _ _ c.value_at-key.ensures c.if-key-eq0.false f.0 (omega (arith, f)) c.if-not-plan-there.true
 
 pub class_at-class-requires-clause-cell_inside : goal.class_at-class-requires-clause-cell_inside
 class_at-class-requires-clause-cell_inside c = key-inside _ _ _ _ c.args.self.at c.requires.lent.1
@@ -31,4 +31,4 @@ class_at-requires-clause-cell_inside c = let f = some-below _ _ c.in-Some.ensure
 pub returns : goal.returns
 returns c = let f = some-below _ _ c.in-Some.ensures in
     ap₂ eqb c.class_at.ensures c.class_at-class.ensures
-    ∙ touched-chosen _ _ _ _ _ _ _ _ c.value_at-key.ensures c.if-key-eq0.false f.0 (omega (arith, f)) c.if-not-chosen-own.false
+    ∙ touched-chosen _ _ _ _ _ _ _ _ c.value_at-key.ensures c.if-key-eq0.false f.0 (omega (arith, f)) c.if-not-plan-there.false

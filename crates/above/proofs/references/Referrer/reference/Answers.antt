@@ -1,11 +1,7 @@
 use mathlib.Core.Path.{◌∙◌}
-use native.Mathlib.Omega.{arith}
 use Rattle.cells.proofs.Counts.{foreign-is}
 use Rattle.above.proofs.Unnamed.{inside-foreign, value_cell, reference-stays, reference-kept, reference-falls}
 use Rattle.above.proofs.references.Referrer.reference.Goals as goal
-
-pub bounds-part-part : goal.bounds-part-part
-bounds-part-part c = omega (arith, c.args.self.referring.few)
 
 pub value_at-key-requires-clause-cell_inside : goal.value_at-key-requires-clause-cell_inside
 value_at-key-requires-clause-cell_inside c = inside-foreign _ _ _ _ _ _ c.args.self.referring c.requires.in_row
