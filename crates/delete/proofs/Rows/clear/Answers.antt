@@ -4,8 +4,8 @@ use lib.ListN.{length}
 use Rattle.model.specs.Tables.{norow}
 use Rattle.above.proofs.Turns.{rows_start, rows_end}
 use Rattle.chosen.proofs.Choosing.{more-chosen, more-unchosen}
-use Rattle.delete.proofs.rows.Goals as goal
-use Rattle.delete.proofs.rows.Goals.{then-chosen-row, else-chosen-row}
+use Rattle.delete.proofs.Rows.clear.Goals as goal
+use Rattle.delete.proofs.Rows.clear.Goals.{then-self-row, else-self-row}
 
 -- The invariant: the rows that were passed are emptied where they are chosen, and nothing else has changed.
 
@@ -14,24 +14,24 @@ loop-row-init c = (refl, refl, rows_start _ _ _ _ _)
 
 pub clear-requires : goal.clear-requires
 clear-requires c = let l = c.loop-row in record {
-  lent = record { values = l.invariant.0 ∙ c.requires.lent.values; classes = l.invariant.1 ∙ c.requires.lent.classes };
-  in_row = record { level = c.requires.in_level; row = omega (arith, c.args.part.laid.rows, c.loop-row-test.true) };
+  lent = record { values = l.invariant.0 ∙ c.requires.values; classes = l.invariant.1 ∙ c.requires.classes };
+  in_row = record { level = c.args.self.now.in_level; row = omega (arith, c.args.self.now.table.part.laid.rows, c.loop-row-test.true) };
 }
 
 pub loop-row-preserved : goal.loop-row-preserved
 loop-row-preserved c = let l = c.loop-row in
-    elim c.if-chosen-row.branch [
-      | then-chosen-row w ↦ (
+    elim c.if-self-row.branch [
+      | then-self-row w ↦ (
         ap length w.values-is ∙ w.clear.auto.values ∙ l.invariant.0,
         ap length w.classes-is ∙ w.clear.auto.classes ∙ l.invariant.1,
-        more-chosen _ _ _ _ _ (λ R. norow) l.row _ _ _ _ l.invariant.2 w.values-is w.classes-is w.if-chosen-row.true w.clear.ensures,
+        more-chosen _ _ _ _ _ (λ R. norow) l.row _ _ _ _ l.invariant.2 w.values-is w.classes-is w.if-self-row.true w.clear.ensures,
       )
-      | else-chosen-row w ↦ (
+      | else-self-row w ↦ (
         ap length w.values-is ∙ l.invariant.0,
         ap length w.classes-is ∙ l.invariant.1,
-        more-unchosen _ _ _ _ _ (λ R. norow) l.row _ _ _ _ l.invariant.2 w.values-is w.classes-is w.if-chosen-row.false,
+        more-unchosen _ _ _ _ _ (λ R. norow) l.row _ _ _ _ l.invariant.2 w.values-is w.classes-is w.if-self-row.false,
       )
     ]
 
 pub returns : goal.returns
-returns c = rows_end _ _ _ _ _ _ _ c.loop-row.invariant.2 (omega (arith, c.args.part.laid.rows, c.loop-row.auto, c.loop-row-test.false))
+returns c = rows_end _ _ _ _ _ _ _ c.loop-row.invariant.2 (omega (arith, c.args.self.now.table.part.laid.rows, c.loop-row.auto, c.loop-row-test.false))
