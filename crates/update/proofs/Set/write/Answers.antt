@@ -1,6 +1,5 @@
 use mathlib.Core.Path.{refl, ◌∙◌}
-use native.Mathlib.Omega.{arith}
-use Rattle.change.proofs.Known.{own-level, lent}
+use Rattle.change.proofs.Known.{lent}
 use Rattle.chosen.proofs.Carrying.{working}
 use Rattle.update.proofs.Updated.{update-listing, update-keyless, update-left, update-planned}
 use Rattle.update.proofs.Set.write.Goals as goal
