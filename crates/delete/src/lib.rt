@@ -25,7 +25,7 @@ struct Rows {
 }
 
 impl Rows {
-    // Whether the row with a key is chosen.
+    // Whether the row with a key is chosen. Key 0 is null over the C interface, and names no row.
     fn names(&self, values: &[u32], key: u32) -> bool
         requires { Sized self.now.table.part.description (length values.now) }
         ensures { result ≡ names_chosen self.now.table.part.description values.now self.now.chosen self.now.table.part.relation self.now.level key }
@@ -73,7 +73,7 @@ impl Rows {
         false
     }
 
-    // Each row that is chosen is emptied.
+    // Each row that is chosen is emptied. UPDATE's `Set::rows` is alike but for the call: a closure over both buffers would be no plainer.
     fn clear(&self, values: &mut [u32], classes: &mut [u8])
         requires { Lent self.now.table.part.description (length values.old) (length classes.old) }
         ensures { RowsDone self.now.table.part.description self.now.table.part.relation self.now.level self.now.chosen (λ R. norow) values.old classes.old values.new classes.new }

@@ -33,7 +33,8 @@ pub fn formed(list: &[u32], columns: Columns) -> bool
         && 0 < list.len()
 }
 
-// What SET lists, for rows of a table at the subject's level.
+// What SET lists, for rows of a table at the subject's level. The pairs lie flat, as they come over the C interface, and go by number, as in the
+// model's `column_at` and `second_at`: over `chunks_exact` the goals speak of the iterator, and the loops are no plainer.
 #[derive(Clone, Copy)]
 struct Set<'a> {
     list: &'a [u32],
@@ -74,7 +75,7 @@ impl Set<'_> {
         }
     }
 
-    // Each row that is chosen is set.
+    // Each row that is chosen is set. DELETE's `Rows::clear` is alike but for the call.
     fn rows(&self, values: &mut [u32], classes: &mut [u8], chosen: [bool; 64])
         requires { Lent self.now.table.part.description (length values.old) (length classes.old) }
         ensures { RowsDone self.now.table.part.description self.now.table.part.relation self.now.level chosen (set_in self.now.level self.now.list.now) values.old classes.old values.new classes.new }

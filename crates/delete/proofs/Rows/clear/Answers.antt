@@ -12,12 +12,6 @@ use Rattle.delete.proofs.Rows.clear.Goals.{then-self-row, else-self-row}
 pub loop-row-init : goal.loop-row-init
 loop-row-init c = (refl, refl, rows_start _ _ _ _ _)
 
-pub clear-requires : goal.clear-requires
-clear-requires c = let l = c.loop-row in record {
-  lent = record { values = l.invariant.0 ∙ c.requires.values; classes = l.invariant.1 ∙ c.requires.classes };
-  in_row = record { level = c.args.self.now.in_level; row = omega (arith, c.args.self.now.table.part.laid.rows, c.loop-row-test.true) };
-}
-
 pub loop-row-preserved : goal.loop-row-preserved
 loop-row-preserved c = let l = c.loop-row in
     elim c.if-self-row.branch [
@@ -32,6 +26,3 @@ loop-row-preserved c = let l = c.loop-row in
         more-unchosen _ _ _ _ _ (λ R. norow) l.row _ _ _ _ l.invariant.2 w.values-is w.classes-is w.if-self-row.false,
       )
     ]
-
-pub returns : goal.returns
-returns c = rows_end _ _ _ _ _ _ _ c.loop-row.invariant.2 (omega (arith, c.args.self.now.table.part.laid.rows, c.loop-row.auto, c.loop-row-test.false))

@@ -16,15 +16,6 @@ bounds-description-referrer c = omega (arith, relation-few _ c.requires.naming.s
 pub returns-then-description-referrer : goal.returns-then-description-referrer
 returns-then-description-referrer c = refers-other _ _ _ _ _ _ (λ e. c.if-description-referrer.true (refers-is _ _ c.requires.naming.relation ∙ e))
 
-pub lay-place-requires : goal.lay-place-requires
-lay-place-requires c = record { sound_description = c.requires.naming.sound-is; known_relation = c.requires.naming.relation }
-
-pub offset_bounds-description-referrer-2 : goal.offset_bounds-description-referrer-2
-offset_bounds-description-referrer-2 c = omega (arith, relation-few _ c.requires.naming.sound-is _ c.requires.naming.relation)
-
-pub bounds-description-referrer-2 : goal.bounds-description-referrer-2
-bounds-description-referrer-2 c = omega (arith, relation-few _ c.requires.naming.sound-is _ c.requires.naming.relation)
-
 pub loop-row-init : goal.loop-row-init
 loop-row-init c = any-start _
 
@@ -36,9 +27,6 @@ value_at-key-requires c = let k = c.requires.naming in
       cell_inside = rw (p.described, p.of_relation, foreign-is _ _ k.relation)
           (reference-inside _ _ _ _ _ k c.requires.relation_nonzero (sym (refers-is _ _ k.relation) ∙ c.if-description-referrer.false) c.loop-row.row (omega (arith, n, c.loop-row-test.true)));
     }
-
-pub names-requires : goal.names-requires
-names-requires c = c.requires.naming.long
 
 pub returns-then-names : goal.returns-then-names
 returns-then-names c = let k = c.requires.naming in

@@ -8,9 +8,5 @@ pub above-requires : goal.above-requires
 above-requires c = let k = c.requires.standing in
     record { carrying = (lent k, working k); planned_in = delete-planned _ (record { gone = refl; changes = refl }) _ _ _ _ (working k) c.requires.only_used }
 
-pub clear-requires : goal.clear-requires
-clear-requires c = let k = c.requires.standing in
-    record { values = c.above.auto.values ∙ k.long; classes = c.above.auto.classes ∙ k.wide }
-
 pub returns : goal.returns
 returns c = delete-left _ (record { gone = refl; changes = refl }) _ _ _ _ (working c.requires.standing) c.requires.only_used c.above.ensures c.clear.ensures
