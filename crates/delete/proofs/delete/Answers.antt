@@ -7,6 +7,9 @@ pub chosen-chosen-requires : goal.chosen-chosen-requires
 chosen-chosen-requires c = let k = c.requires.standing in
     record { lent = lent k; in_level = own-level k; asking = record { ordered = c.args.table.ordered; formed = c.requires.formed_conditions } }
 
+pub invariant_of-rows : goal.invariant_of-rows
+invariant_of-rows c = record { in_level = own-level c.requires.standing }
+
 pub referred-requires : goal.referred-requires
 referred-requires c = naming c.requires.standing
 
