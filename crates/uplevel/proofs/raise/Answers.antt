@@ -27,7 +27,7 @@ returns-in_err-row c = let s = c.requires.standing in
     let p = err_from_is_err_and c.from_residual-in_err-row.result c.from_residual-in_err-row.ensures.1 in
     let f = c.in_err-row.ensures in
     let v = unfound f.value in
-    rw (p.1, p.2, v.1) (refuses _ (full _ _ _ _ _ _ _ (own-over s) c.requires.listing.some_key c.entity-here.ensures _ c.in_ok-check.ensures c.spot.ensures v.0) refl refl refl)
+    rw (p.1, p.2, v.1) (refuses _ (full _ _ _ _ _ _ _ (own-over s) c.args.entity.keyed c.entity-here.ensures _ c.in_ok-check.ensures c.spot.ensures v.0) refl refl refl)
 
 pub compose-news-requires : goal.compose-news-requires
 compose-news-requires c = record { standing = c.requires.standing; listing = c.requires.listing }
@@ -36,15 +36,15 @@ pub write-requires : goal.write-requires
 write-requires c = let s = c.requires.standing in
     let w = sym c.in_ok-row.ensures.ok_part ∙ c.spot.ensures in
     record {
-      standing = (s, in_rows s _ _ _ c.requires.listing c.entity-here.ensures w);
-      replacing = rw (c.is_some.ensures) (row-used s _ _ _ c.requires.listing c.entity-here.ensures w);
+      standing = (s, in_rows s _ _ _ c.args.entity.keyed c.requires.listing c.entity-here.ensures w);
+      replacing = rw (c.is_some.ensures) (row-used s _ _ _ c.args.entity.keyed c.requires.listing c.entity-here.ensures w);
     }
 
 pub returns : goal.returns
 returns c = let s = c.requires.standing in
     let w = sym c.in_ok-row.ensures.ok_part ∙ c.spot.ensures in
     let k = c.args.table.part.laid in
-    let h = in_rows s _ _ _ c.requires.listing c.entity-here.ensures w in
+    let h = in_rows s _ _ _ c.args.entity.keyed c.requires.listing c.entity-here.ensures w in
     let m = rw (c.is_some.ensures) at c.write.ensures in
-    does (room _ _ _ _ _ _ _ (own-over s) c.requires.listing.some_key c.entity-here.ensures _ c.in_ok-check.ensures c.spot.ensures c.in_ok-row.ensures.ok_part) refl
-    (uplevel-left s _ _ _ c.requires.listing c.entity-here.ensures w c.compose-news.ensures (omega (arith, k.narrow, k.columns)) (omega (arith, k.few, k.rows, h)) m)
+    does (room _ _ _ _ _ _ _ (own-over s) c.args.entity.keyed c.entity-here.ensures _ c.in_ok-check.ensures c.spot.ensures c.in_ok-row.ensures.ok_part) refl
+    (uplevel-left s _ _ _ c.args.entity.keyed c.requires.listing c.entity-here.ensures w c.compose-news.ensures (omega (arith, k.narrow, k.columns)) (omega (arith, k.few, k.rows, h)) m)

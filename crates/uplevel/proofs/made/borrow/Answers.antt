@@ -27,7 +27,7 @@ pub bounds-list-at : goal.bounds-list-at
 bounds-list-at c = omega (arith, pair-there _ _ c.in-Some.ensures)
 
 pub take-requires : goal.take-requires
-take-requires c = record { standing = c.requires.standing; key_nonzero = (c.requires.listing.some_key, from-seen _ _ _ _ c.requires.listing.seen c.in-Some.ensures) }
+take-requires c = record { standing = c.requires.standing; lender_seen = from-seen _ _ _ _ c.requires.listing.seen c.in-Some.ensures }
 
 pub returns : goal.returns
 returns c = raised-listed _ _ _ _ _ _ _ c.if-column-eq1.false (listed-some _ _ c.in-Some.ensures) c.take.ensures

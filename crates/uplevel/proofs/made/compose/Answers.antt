@@ -22,9 +22,10 @@ borrow-new-requires c = let k = c.args.table.part.laid.columns in
 pub loop-column-preserved : goal.loop-column-preserved
 loop-column-preserved c = let l = c.loop-column in
     let h : l.column ≤ 8 = omega (arith, c.args.table.part.laid.narrow, c.loop-column-test.true) in
-    let u : 1 ≤ l.column = omega arith in
-    (filled_more _ l.column _ _ _ _ (omega (arith, u)) (omega arith) h (value_of c.borrow-new.ensures) l.invariant.0,
-    filled_more _ l.column _ _ _ _ (omega (arith, u)) (omega arith) h (class_of c.borrow-new.ensures) l.invariant.1)
+    let u : 1 ≤ l.column = omega arith in (
+      filled_more _ l.column _ _ _ _ (omega (arith, u)) (omega arith) h (value_of c.borrow-new.ensures) l.invariant.0,
+      filled_more _ l.column _ _ _ _ (omega (arith, u)) (omega arith) h (class_of c.borrow-new.ensures) l.invariant.1,
+    )
 
 pub returns : goal.returns
 returns c = let l = c.loop-column in let k = c.args.table.part.laid.columns in

@@ -12,28 +12,27 @@ taken-requires c = let s = c.requires.standing in record { sized = s.long; in_le
 pub returns-then-taken : goal.returns-then-taken
 unfolding later_tests
 returns-then-taken c =
-    fails _ _ (taken-test _ _ _ _ _ _ _ (own-over c.requires.standing) c.requires.listing.some_key c.requires.found ∙ ap not (sym c.taken.ensures ∙ c.if-taken.true))
+    fails _ _ (taken-test _ _ _ _ _ _ _ (own-over c.requires.standing) c.args.entity.keyed c.requires.found ∙ ap not (sym c.taken.ensures ∙ c.if-taken.true))
 
 pub returns-then-not-each : goal.returns-then-not-each
 unfolding later_tests
 returns-then-not-each c = let e = rw (c.columns.ensures.described, c.columns.ensures.of_relation) at c.each.ensures in
-    passes _ _ (taken-test _ _ _ _ _ _ _ (own-over c.requires.standing) c.requires.listing.some_key c.requires.found ∙ ap not (sym c.taken.ensures ∙ c.if-taken.false))
+    passes _ _ (taken-test _ _ _ _ _ _ _ (own-over c.requires.standing) c.args.entity.keyed c.requires.found ∙ ap not (sym c.taken.ensures ∙ c.if-taken.false))
     (fails _ _ (class-test _ _ _ _ e ∙ c.if-not-each.true))
 
 pub borrowed-requires : goal.borrowed-requires
-borrowed-requires c = let s = c.requires.standing in
-    record { sound-is = s.sound-is; relation = s.relation; level = s.level; long = s.long; wide = s.wide; lists = c.requires.listing }
+borrowed-requires c = record { standing = c.requires.standing; listing = c.requires.listing }
 
 pub returns-then-not-borrowed : goal.returns-then-not-borrowed
 unfolding later_tests
 returns-then-not-borrowed c = let e = rw (c.columns.ensures.described, c.columns.ensures.of_relation) at c.each.ensures in
-    passes _ _ (taken-test _ _ _ _ _ _ _ (own-over c.requires.standing) c.requires.listing.some_key c.requires.found ∙ ap not (sym c.taken.ensures ∙ c.if-taken.false))
+    passes _ _ (taken-test _ _ _ _ _ _ _ (own-over c.requires.standing) c.args.entity.keyed c.requires.found ∙ ap not (sym c.taken.ensures ∙ c.if-taken.false))
     (passes _ _ (class-test _ _ _ _ e ∙ c.if-not-each.false)
     (fails _ _ (sym c.borrowed.ensures ∙ c.if-not-borrowed.true)))
 
 pub returns : goal.returns
 unfolding later_tests
 returns c = let e = rw (c.columns.ensures.described, c.columns.ensures.of_relation) at c.each.ensures in
-    passes _ _ (taken-test _ _ _ _ _ _ _ (own-over c.requires.standing) c.requires.listing.some_key c.requires.found ∙ ap not (sym c.taken.ensures ∙ c.if-taken.false))
+    passes _ _ (taken-test _ _ _ _ _ _ _ (own-over c.requires.standing) c.args.entity.keyed c.requires.found ∙ ap not (sym c.taken.ensures ∙ c.if-taken.false))
     (passes _ _ (class-test _ _ _ _ e ∙ c.if-not-each.false)
     (passes _ _ (sym c.borrowed.ensures ∙ c.if-not-borrowed.false) no_more))
