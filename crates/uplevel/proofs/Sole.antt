@@ -8,7 +8,7 @@ use native.Mathlib.Nat.{le_refl}
 use native.Mathlib.Numerals.{add-one}
 use native.Mathlib.Omega.{arith}
 use lib.Dec.{ltb}
-use borrow.Author.Tests.{lt-ltb, le-ltb, ltb-true, ltb-false}
+use borrow.Author.Tests.{lt-ltb, ltb-true, ltb-false}
 use Rattle.bounded.specs.Bounded.{first_below, count_below, some_below}
 use Rattle.bounded.proofs.Cases.{cases, clash, at-end}
 use Rattle.bounded.proofs.Count.{count-start, count-more, count_same}

@@ -9,9 +9,9 @@ use mathlib.Core.Logic.{◌≢◌}
 use mathlib.Core.Option.{none, some}
 use native.Mathlib.Omega.{arith}
 use lib.Dec.{eqb, ltb, leb}
-use borrow.Author.Tests.{ltb-true, ltb-false, le-leb, lt-leb}
-use Rattle.bounded.specs.Bounded.{first_below, count_below, some_below}
-use Rattle.bounded.proofs.Cases.{cases, and_left, and_right}
+use borrow.Author.Tests.{ltb-true, ltb-false, lt-leb}
+use Rattle.bounded.specs.Bounded.{first_below, count_below}
+use Rattle.bounded.proofs.Cases.{cases, and_right}
 use Rattle.bounded.proofs.First.{first-le, first_holds}
 use Rattle.bounded.proofs.Found.{below-some, below-none}
 use Rattle.bounded.proofs.Reflection.{is_false, bool-r}
@@ -33,12 +33,11 @@ use Rattle.asked.specs.Facts.{rule_of}
 use Rattle.theory.proofs.Seen.{seen_at, seen-own}
 use Rattle.change.specs.Facts.{Answered, refuses, does, sight, Uplevels}
 use Rattle.change.specs.Tests.{ended}
-use Rattle.uplevel.specs.declared.meant.Entity.{Entity}
 use Rattle.uplevel.specs.Raising.{given_of, sole_of, own_of, class_seen, levels_seen, later_tests, spot_of}
 use Rattle.uplevel.specs.Raised.{Raises}
 use Rattle.change.proofs.Sought.{used-is}
-use Rattle.change.proofs.Answers.{first-fails, first_passes, first-none, first-begun, first-beyond}
-use Rattle.change.proofs.Ended.{failed-by, passed-by}
+use Rattle.change.proofs.Answers.{first-fails, first_passes, first-none, first-beyond}
+use Rattle.change.proofs.Ended.{passed-by}
 use Rattle.uplevel.proofs.Entities.{some-is, level-few, entity-is}
 use Rattle.uplevel.proofs.Sole.{Sole}
 

@@ -1,4 +1,3 @@
-use mathlib.Core.Path.{sym, ◌∙◌}
 use Rattle.std.proofs.lemmas.Result.{err_from_is_err_and}
 use Rattle.cells.proofs.Counts.{sound-says}
 use Rattle.uplevel.proofs.Upformed.{class-small, formed-key, formed-lists}
