@@ -12,9 +12,6 @@ use Rattle.uplevel.proofs.raise.Goals as goal
 pub entity-here-requires : goal.entity-here-requires
 entity-here-requires c = let s = c.requires.standing in record { lent = lent s; in_level = own-level s }
 
-pub check-requires : goal.check-requires
-check-requires c = record { standing = c.requires.standing; listing = c.requires.listing; found = c.entity-here.ensures }
-
 pub returns-in_err-check : goal.returns-in_err-check
 returns-in_err-check c = let p = err_from_is_err_and c.from_residual.result c.from_residual.ensures.1 in
     rw (p.1, p.2) (refuses _ (first-begun 3 _ (failed-by c.in_err-check.ensures refl)) refl refl refl)
@@ -28,9 +25,6 @@ returns-in_err-row c = let s = c.requires.standing in
     let f = c.in_err-row.ensures in
     let v = unfound f.value in
     rw (p.1, p.2, v.1) (refuses _ (full _ _ _ _ _ _ _ (own-over s) c.args.entity.keyed c.entity-here.ensures _ c.in_ok-check.ensures c.spot.ensures v.0) refl refl refl)
-
-pub compose-news-requires : goal.compose-news-requires
-compose-news-requires c = record { standing = c.requires.standing; listing = c.requires.listing }
 
 pub write-requires : goal.write-requires
 write-requires c = let s = c.requires.standing in

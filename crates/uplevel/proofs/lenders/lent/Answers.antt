@@ -4,9 +4,6 @@ use Rattle.cells.proofs.Cells.{row_inside}
 use Rattle.uplevel.proofs.Entities.{entity-found, lent-missing, lent_other, lent-own}
 use Rattle.uplevel.proofs.lenders.lent.Goals as goal
 
-pub entity-requires : goal.entity-requires
-entity-requires c = record { lent = c.requires.lent; in_level = c.requires.in_level.0 }
-
 pub returns-in_default : goal.returns-in_default
 returns-in_default c = lent-missing _ _ _ _ _ _ _ c.args.entity.keyed c.in_default.ensures _
 

@@ -14,9 +14,6 @@ lent-value-requires c = let q = c.requires.standing.0 in
 pub strays-requires : goal.strays-requires
 strays-requires c = let q = c.requires.standing.0 in record { reaching = record { sound-is = q.sound-is; relation = q.relation; subject = q.level; level = (level-few _ q.sound-is _ _ c.requires.lender_seen).0; values = q.long; classes = q.wide }; column_nonzero = λ z. omega (arith, (of-true (column-r _ _ _) c.requires.standing.1).0, z) }
 
-pub overflow_cast-subject : goal.overflow_cast-subject
-overflow_cast-subject c = omega (arith, c.requires.standing.0.level, (sound-says _ c.requires.standing.0.sound-is).few-levels)
-
 pub returns-then-strays : goal.returns-then-strays
 returns-then-strays c = let x = rw (c.columns.ensures.described, c.columns.ensures.of_relation) at c.null-class.ensures in
     taken-strayed _ _ _ _ _ _ _ (own-over c.requires.standing.0) c.requires.lender_seen c.lent-value.ensures c.strays.ensures c.if-strays.true x

@@ -1,9 +1,6 @@
 use Rattle.uplevel.proofs.Upfaults.{given-unbased, given-based}
 use Rattle.uplevel.proofs.meant.own.Goals as goal
 
-pub returns-in_default : goal.returns-in_default
-returns-in_default c = rw (c.in_default.is) c.sole.ensures
-
 pub returns-then-not-based : goal.returns-then-not-based
 returns-then-not-based c = given-unbased _ _ _ _ _ c.in-Some.is c.based.ensures c.if-not-based.true
 

@@ -8,9 +8,6 @@ use Rattle.uplevel.proofs.meant.sole.Goals.{then-based+else-is_some, else-based}
 
 -- The invariant: what was found among the key classes that were passed.
 
-pub overflow_cast-levels : goal.overflow_cast-levels
-overflow_cast-levels c = omega (arith, (sound-says _ c.requires.standing.sound-is).few-levels)
-
 pub loop-class-init : goal.loop-class-init
 loop-class-init c = sole-start _
 

@@ -20,9 +20,6 @@ returns-then-not-each c = let e = rw (c.columns.ensures.described, c.columns.ens
     passes _ _ (taken-test _ _ _ _ _ _ _ (own-over c.requires.standing) c.args.entity.keyed c.requires.found ∙ ap not (sym c.taken.ensures ∙ c.if-taken.false))
     (fails _ _ (class-test _ _ _ _ e ∙ c.if-not-each.true))
 
-pub borrowed-requires : goal.borrowed-requires
-borrowed-requires c = record { standing = c.requires.standing; listing = c.requires.listing }
-
 pub returns-then-not-borrowed : goal.returns-then-not-borrowed
 unfolding later_tests
 returns-then-not-borrowed c = let e = rw (c.columns.ensures.described, c.columns.ensures.of_relation) at c.each.ensures in
