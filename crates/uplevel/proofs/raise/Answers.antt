@@ -9,15 +9,15 @@ use Rattle.uplevel.proofs.Upfaults.{unfound, full, room}
 use Rattle.uplevel.proofs.Uplevelled.{in_rows, row-used, uplevel-left}
 use Rattle.uplevel.proofs.raise.Goals as goal
 
-pub entity-here-requires : goal.entity-here-requires
-entity-here-requires c = let s = c.requires.standing in record { lent = lent s; in_level = own-level s }
+pub entity-here-requires-clause-in_level : goal.entity-here-requires-clause-in_level
+entity-here-requires-clause-in_level c = own-level c.requires.standing
 
 pub returns-in_err-check : goal.returns-in_err-check
 returns-in_err-check c = let p = err_from_is_err_and c.from_residual.result c.from_residual.ensures.1 in
     rw (p.1, p.2) (refuses _ (first-begun 3 _ (failed-by c.in_err-check.ensures refl)) refl refl refl)
 
-pub spot-requires : goal.spot-requires
-spot-requires c = let s = c.requires.standing in record { lent = lent s; in_level = own-level s }
+pub spot-requires-clause-in_level : goal.spot-requires-clause-in_level
+spot-requires-clause-in_level c = own-level c.requires.standing
 
 pub returns-in_err-row : goal.returns-in_err-row
 returns-in_err-row c = let s = c.requires.standing in

@@ -18,8 +18,8 @@ returns-then-not-each c = let k = c.columns-columns.ensures in
     let y = rw (k.described, k.of_relation) at c.each.ensures in
     range-answer _ _ _ _ _ _ _ _ x c.if-not-seen.false y c.if-not-each.true
 
-pub own-requires : goal.own-requires
-own-requires c = record { standing = c.requires.standing; key_nonzero = formed-key _ _ _ _ _ c.requires.formed_list }
+pub own-requires-clause-key_nonzero : goal.own-requires-clause-key_nonzero
+own-requires-clause-key_nonzero c = formed-key _ _ _ _ _ c.requires.formed_list
 
 pub returns-in_err-own : goal.returns-in_err-own
 returns-in_err-own c = let k = c.columns-columns.ensures in
@@ -29,10 +29,10 @@ returns-in_err-own c = let k = c.columns-columns.ensures in
     let e = rw (c.given-given.ensures) at c.in_err-own.ensures in
     rw (p.1, p.2) (refused-answer _ _ _ _ _ _ _ _ x c.if-not-seen.false y c.if-not-each.false c.requires.standing.sound-is e)
 
-pub raise-requires : goal.raise-requires
-raise-requires c = let k = c.columns-columns.ensures in
+pub raise-requires-clause-listing : goal.raise-requires-clause-listing
+raise-requires-clause-listing c = let k = c.columns-columns.ensures in
     let x = rw (k.described, c.given-given.ensures) at c.seen.ensures in
-    record { standing = c.requires.standing; listing = formed-lists _ _ _ _ _ c.requires.formed_list _ (from-sees _ _ _ _ x c.if-not-seen.false) }
+    formed-lists _ _ _ _ _ c.requires.formed_list _ (from-sees _ _ _ _ x c.if-not-seen.false)
 
 pub returns : goal.returns
 returns c = let k = c.columns-columns.ensures in

@@ -13,7 +13,5 @@ above-requires-clause-planned_in c =
     planned (record { chosen = c.choose-chosen.ensures; gone = refl; changes = c.changes-changes.ensures }) _ _ _ _
     (omega (arith, c.args.table.part.laid.few, c.args.table.part.laid.rows, c.requires.standing.1)) c.requires.replacing
 
-pub store-requires : goal.store-requires
-store-requires c = let s = c.requires.standing.0 in
-    let k = c.above.auto in
-    record { lent = record { values = k.values ∙ s.long; classes = k.classes ∙ s.wide }; in_row = record { level = own-level s; row = c.requires.standing.1 } }
+pub store-requires-clause-in_row : goal.store-requires-clause-in_row
+store-requires-clause-in_row c = record { level = own-level c.requires.standing.0; row = c.requires.standing.1 }

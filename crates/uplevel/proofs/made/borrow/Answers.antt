@@ -23,8 +23,8 @@ offset_bounds-list-at c = omega (arith, pair-there _ _ c.in-Some.ensures)
 pub bounds-list-at : goal.bounds-list-at
 bounds-list-at c = omega (arith, pair-there _ _ c.in-Some.ensures)
 
-pub take-requires : goal.take-requires
-take-requires c = record { standing = c.requires.standing; lender_seen = from-seen _ _ _ _ c.requires.listing.seen c.in-Some.ensures }
+pub take-requires-clause-lender_seen : goal.take-requires-clause-lender_seen
+take-requires-clause-lender_seen c = from-seen _ _ _ _ c.requires.listing.seen c.in-Some.ensures
 
 pub returns : goal.returns
 returns c = raised-listed _ _ _ _ _ _ _ c.if-column-eq1.false (listed-some _ _ c.in-Some.ensures) c.take.ensures

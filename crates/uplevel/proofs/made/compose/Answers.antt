@@ -9,6 +9,5 @@ use Rattle.uplevel.proofs.made.compose.Goals as goal
 
 -- The invariant: the columns that were passed have their values and their classes.
 
-pub borrow-new-requires : goal.borrow-new-requires
-borrow-new-requires c = let k = c.args.table.part.laid.columns in
-    record { standing = (c.requires.standing, is_true (column-r _ _ _) (omega arith, omega (arith, k, c.loop-column-test.true))); listing = c.requires.listing }
+pub borrow-new-requires-clause-standing : goal.borrow-new-requires-clause-standing
+borrow-new-requires-clause-standing c = (c.requires.standing, is_true (column-r _ _ _) (omega arith, omega (arith, c.args.table.part.laid.columns, c.loop-column-test.true)))

@@ -7,12 +7,16 @@ use Rattle.uplevel.proofs.Entities.{level-few}
 use Rattle.uplevel.proofs.Borrowing.{taken-strayed, taken-lent}
 use Rattle.uplevel.proofs.made.take.Goals as goal
 
-pub lent-value-requires : goal.lent-value-requires
-lent-value-requires c = let q = c.requires.standing.0 in
-    record { lent = lent q; in_level = (in-level _ q.sound-is _ q.relation _ (level-few _ q.sound-is _ _ c.requires.lender_seen).0, c.requires.standing.1) }
+pub lent-value-requires-clause-in_level : goal.lent-value-requires-clause-in_level
+lent-value-requires-clause-in_level c = let q = c.requires.standing.0 in
+    (in-level _ q.sound-is _ q.relation _ (level-few _ q.sound-is _ _ c.requires.lender_seen).0, c.requires.standing.1)
 
-pub strays-requires : goal.strays-requires
-strays-requires c = let q = c.requires.standing.0 in record { reaching = record { sound-is = q.sound-is; relation = q.relation; subject = q.level; level = (level-few _ q.sound-is _ _ c.requires.lender_seen).0; values = q.long; classes = q.wide }; column_nonzero = λ z. omega (arith, (of-true (column-r _ _ _) c.requires.standing.1).0, z) }
+pub strays-requires-clause-reaching : goal.strays-requires-clause-reaching
+strays-requires-clause-reaching c = let q = c.requires.standing.0 in
+    record { sound-is = q.sound-is; relation = q.relation; subject = q.level; level = (level-few _ q.sound-is _ _ c.requires.lender_seen).0; values = q.long; classes = q.wide }
+
+pub strays-requires-clause-column_nonzero : goal.strays-requires-clause-column_nonzero
+strays-requires-clause-column_nonzero c = λ z. omega (arith, (of-true (column-r _ _ _) c.requires.standing.1).0, z)
 
 pub returns-then-strays : goal.returns-then-strays
 returns-then-strays c = let x = rw (c.columns.ensures.described, c.columns.ensures.of_relation) at c.null-class.ensures in

@@ -33,15 +33,15 @@ offset_bounds-list-at c = omega (arith, pair-there _ _ c.in-Some.ensures)
 pub bounds-list-at : goal.bounds-list-at
 bounds-list-at c = omega (arith, pair-there _ _ c.in-Some.ensures)
 
-pub lent-value-requires : goal.lent-value-requires
-lent-value-requires c = let q = c.requires.standing in
+pub lent-value-requires-clause-in_level : goal.lent-value-requires-clause-in_level
+lent-value-requires-clause-in_level c = let q = c.requires.standing in
     let F = foreign-is _ _ q.relation in
     let f = (relation-is _ q.sound-is _ q.relation).referring (λ z. c.if-column-eq0.false (F ∙ z)) in
     let g = level-few _ q.sound-is _ _ (from-seen _ _ _ _ c.requires.listing.seen c.in-Some.ensures) in
-    record { lent = lent q; in_level = (in-level _ q.sound-is _ q.relation _ g.0, is_true (column-r _ _ _) (omega (arith, F, f.after-key), omega (arith, F, f.column))) }
+    (in-level _ q.sound-is _ q.relation _ g.0, is_true (column-r _ _ _) (omega (arith, F, f.after-key), omega (arith, F, f.column)))
 
-pub names-requires : goal.names-requires
-names-requires c = let q = c.requires.standing in record { naming = naming q; relation_nonzero = λ z. c.if-column-eq0.false (foreign-is _ _ q.relation ∙ z) }
+pub names-requires-clause-relation_nonzero : goal.names-requires-clause-relation_nonzero
+names-requires-clause-relation_nonzero c = λ z. c.if-column-eq0.false (foreign-is _ _ c.requires.standing.relation ∙ z)
 
 pub returns : goal.returns
 returns c = let q = c.requires.standing in

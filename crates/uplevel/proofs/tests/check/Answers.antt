@@ -6,8 +6,8 @@ use Rattle.uplevel.specs.Raising.{later_tests}
 use Rattle.uplevel.proofs.Upfaults.{taken-test, class-test}
 use Rattle.uplevel.proofs.tests.check.Goals as goal
 
-pub taken-requires : goal.taken-requires
-taken-requires c = let s = c.requires.standing in record { sized = s.long; in_level = own-level s }
+pub taken-requires-clause-in_level : goal.taken-requires-clause-in_level
+taken-requires-clause-in_level c = own-level c.requires.standing
 
 pub returns-then-taken : goal.returns-then-taken
 unfolding later_tests
