@@ -9,11 +9,11 @@ use mathlib.Core.Logic.{◌≢◌}
 use mathlib.Core.Option.{none, some}
 use native.Mathlib.Omega.{arith}
 use lib.Dec.{eqb, ltb, leb}
-use borrow.Author.Tests.{ltb-true, ltb-false, le-leb, lt-leb}
-use Rattle.bounded.specs.Bounded.{first_below, count_below, some_below}
-use Rattle.bounded.proofs.Cases.{cases, and_left, and_right}
-use Rattle.bounded.proofs.First.{first-le}
-use Rattle.bounded.proofs.Found.{some-below, none-below}
+use borrow.Author.Tests.{ltb-true, ltb-false, lt-leb}
+use Rattle.bounded.specs.Bounded.{first_below, count_below}
+use Rattle.bounded.proofs.Cases.{cases, and_right}
+use Rattle.bounded.proofs.First.{first-le, first_holds}
+use Rattle.bounded.proofs.Found.{below-some, below-none}
 use Rattle.bounded.proofs.Reflection.{is_false, bool-r}
 use Rattle.model.specs.declared.Description.{Description}
 use Rattle.model.specs.declared.Fault.{Fault}
@@ -33,13 +33,13 @@ use Rattle.asked.specs.Facts.{rule_of}
 use Rattle.theory.proofs.Seen.{seen_at, seen-own}
 use Rattle.change.specs.Facts.{Answered, refuses, does, sight, Uplevels}
 use Rattle.change.specs.Tests.{ended}
-use Rattle.uplevel.specs.declared.meant.Entity.{Entity}
-use Rattle.uplevel.specs.Raising.{given_of, own_of, admitted, class_seen, levels_seen, later_tests, several_based, spot_of}
+use Rattle.uplevel.specs.Raising.{given_of, sole_of, own_of, class_seen, levels_seen, later_tests, spot_of}
 use Rattle.uplevel.specs.Raised.{Raises}
 use Rattle.change.proofs.Sought.{used-is}
-use Rattle.change.proofs.Answers.{first-fails, first_passes, first-none, first-begun, first-beyond}
-use Rattle.change.proofs.Ended.{failed-by, passed-by}
+use Rattle.change.proofs.Answers.{first-fails, first_passes, first-none, first-beyond}
+use Rattle.change.proofs.Ended.{passed-by}
 use Rattle.uplevel.proofs.Entities.{some-is, level-few, entity-is}
+use Rattle.uplevel.proofs.Sole.{Sole}
 
 -- ---- the entity
 
@@ -49,130 +49,112 @@ unfolding based
 unseen-past d c r key T s = rw (is_false (bool-r (over d c d.levels)) (λ o. let h = (level-few d s c d.levels o).0 in omega (arith, h)))
 
 module _ (d : Description) (c r key : ℕ) (T : Tables) where
-  abbrev bases : ℕ
-  bases = count_below d.levels (based d c r key T)
-
-  more : (n : ℕ) → ltb 1 n ≡ not (leb n 1)
-  more n = cases (ltb 1 n) (λ t. rw (t, lt-leb n 1 (ltb-true 1 n t))) (λ t. rw (t, le-leb n 1 (ltb-false 1 n t)))
-
-  pub own-given : (o : Option ℕ) → is_some o ≡ true → o ≡ own_of d c r key o T
+  -- the one that is given
+  pub given-unbased : {o : Option ℕ} {class : ℕ} → o ≡ Some class → {b : Bool} → b ≡ based d c r key T class → b ≡ false → Err Faults.Absent ≡ own_of d c r key o T
   unfolding own_of
-  own-given None t = cc
-  own-given (Some class) t = refl
+  given-unbased e x t = rw (e, own_of, ← x, t)
 
-  pub own-base : (o : Option ℕ) → is_some o ≡ false → {b : Option ℕ} → b ≡ some_below d.levels (first_below d.levels (based d c r key T)) → b ≡ own_of d c r key o T
+  pub given-based : {o : Option ℕ} {class : ℕ} → o ≡ Some class → {b : Bool} → b ≡ based d c r key T class → b ≡ true → Ok class ≡ own_of d c r key o T
   unfolding own_of
-  own-base None t p = p
-  own-base (Some class) t p = cc
+  given-based e x t = rw (e, own_of, ← x, t)
 
-  pub several-count : (o : Option ℕ) → is_some o ≡ false → {n : ℕ} → n ≡ bases → ltb 1 n ≡ several_based d c r key o T
-  unfolding several_based
-  several-count None t {n} p = rw (← p) (more n)
-  several-count (Some class) t p = cc
+  abbrev first : ℕ
+  first = first_below d.levels (based d c r key T)
 
-  pub several-given : (o : Option ℕ) → is_some o ≡ true → false ≡ several_based d c r key o T
-  unfolding several_based
-  several-given None t = cc
-  several-given (Some class) t = refl
+  abbrev many : ℕ
+  many = count_below d.levels (based d c r key T)
 
-  -- how it is answered which entity is meant
-  module _ (o : Option ℕ) where
-    pub admits-none : None ≡ own_of d c r key o T → Err Faults.Absent ≡ admitted d c r key o T
-    unfolding admitted
-    admits-none p = rw (← p, admitted)
+  -- the only one
+  pub sole-many : (first < d.levels) × (2 ≤ many) → Err Faults.Several ≡ own_of d c r key None T
+  unfolding own_of sole_of
+  sole-many h = rw (below-some _ _ h.0, sole_of, lt-leb _ _ h.1)
 
-    module _ {class : ℕ} (p : Some class ≡ own_of d c r key o T) {b : Bool} (x : b ≡ based d c r key T class) where
-      pub admits-unbased : b ≡ false → Err Faults.Absent ≡ admitted d c r key o T
-      unfolding admitted
-      admits-unbased t = rw (← p, admitted, ← x, t)
+  pub sole-answer : {o : Option ℕ} → Sole d.levels (based d c r key T) o → ok_or o Faults.Absent ≡ own_of d c r key None T
+  unfolding own_of sole_of
+  sole-answer {o = None} S = rw (← S.first, sole_of)
+  sole-answer {o = Some x} S = rw (← S.first, sole_of, ← S.many)
 
-      module _ (t : b ≡ true) {s : Bool} (y : s ≡ several_based d c r key o T) where
-        pub admits-several : s ≡ true → Err Faults.Several ≡ admitted d c r key o T
-        unfolding admitted
-        admits-several u = rw (← p, admitted, ← x, t, ← y, u)
+  -- what is answered of it
+  sole-refused : sound d ≡ true → {f : Fault} → Err f ≡ own_of d c r key None T → {P : Type 0}
+      → (based d c r key T first ≡ false → f ≡ Faults.Absent → P) → (based d c r key T first ≡ true → leb many 1 ≡ false → f ≡ Faults.Several → P) → P
+  unfolding own_of sole_of
+  sole-refused s {f} e {P} g h =
+      cases (ltb first d.levels)
+      (λ t. several (ltb-true _ _ t) (rw (below-some _ _ (ltb-true _ _ t)) at e))
+      (λ t. absent (ltb-false _ _ t) (rw (below-none _ _ (ltb-false _ _ t)) at e))
+    where
+      several : first < d.levels → Err f ≡ sole_of (Some first) many → P
+      several l q =
+          cases (leb many 1)
+          (λ u. let z : Err f ≡ Ok first = (rw u at q) in cc)
+          (λ u. let z : Err f ≡ Err Faults.Several = (rw u at q) in h (first_holds _ _ l) u cc)
 
-        pub admits-entity : s ≡ false → Ok (record { key = key; class = class }) ≡ admitted d c r key o T
-        unfolding admitted
-        admits-entity u = rw (← p, admitted, ← x, t, ← y, u)
+      absent : d.levels ≤ first → Err f ≡ sole_of None many → P
+      absent l q =
+          let k = first-le d.levels (based d c r key T) in
+          let e : first ≡ d.levels = omega (arith, l, k) in g (rw e (unseen-past d c r key T s)) cc
+
+  sole-owned : {own : ℕ} → Ok own ≡ own_of d c r key None T → (own ≡ first) × ((based d c r key T first ≡ true) × (leb many 1 ≡ true))
+  unfolding own_of sole_of
+  sole-owned {own} e =
+      cases (ltb first d.levels)
+      (λ t. one (ltb-true _ _ t) (rw (below-some _ _ (ltb-true _ _ t)) at e))
+      (λ t. let z : Ok own ≡ Err Faults.Absent = (rw (below-none _ _ (ltb-false _ _ t)) at e) in cc)
+    where
+      one : first < d.levels → Ok own ≡ sole_of (Some first) many → (own ≡ first) × ((based d c r key T first ≡ true) × (leb many 1 ≡ true))
+      one l q =
+          cases (leb many 1)
+          (λ u. let z : Ok own ≡ Ok first = (rw u at q) in (cc, (first_holds _ _ l, u)))
+          (λ u. let z : Ok own ≡ Err Faults.Several = (rw u at q) in cc)
 
 -- ---- what the model says of the entity that is meant
 
 module _ (d : Description) (c r key class : ℕ) (T : Tables) where
-  entity-own : {k : ℕ} → Some k ≡ own_of d c r key (given_of class) T → entity_of d c r key class T ≡ cell key k
-  unfolding entity_of given_of own_of
-  entity-own {k} p =
-      cases (eqb class 255)
-      (λ t. let q = (rw t at p) in rw t (ap (cell key) (sym (some-below _ _ q).0)))
-      (λ t. let q : Some k ≡ Some class = (rw t at p) in rw t (ap (cell key) cc))
-
-  entity-none : sound d ≡ true → None ≡ own_of d c r key (given_of class) T → based d c r key T (entity_of d c r key class T).class ≡ false
-  unfolding entity_of given_of own_of
-  entity-none s p =
-      cases (eqb class 255)
-      (λ t. let q = (rw t at p) in
-      let h = none-below _ _ q in
-      let k = first-le d.levels (based d c r key T) in
-      let e : first_below d.levels (based d c r key T) ≡ d.levels = omega (arith, h, k) in
-      rw (t, e) (unseen-past d c r key T s))
-      (λ t. let q : None ≡ Some class = (rw t at p) in cc)
-
   -- the tests of it
   abbrev meant : List (Bool × Fault) → List (Bool × Fault)
   meant ts =
       (based d c r key T (entity_of d c r key class T).class, Faults.Absent)
-      ∷ (not (several_based d c r key (given_of class) T), Faults.Several) ∷ ts
+      ∷ (not (eqb class 255) || leb (many d c r key T) 1, Faults.Several) ∷ ts
 
   -- a refusal is the fault of the first that fails
-  pub refused-by : sound d ≡ true → {f : Fault} → Err f ≡ admitted d c r key (given_of class) T → (ts : List (Bool × Fault)) → first_fault (meant ts) ≡ some f
-  refused-by s {f} e ts = go (own_of d c r key (given_of class) T) refl
+  pub refused-by : sound d ≡ true → {f : Fault} → Err f ≡ own_of d c r key (given_of class) T → (ts : List (Bool × Fault)) → first_fault (meant ts) ≡ some f
+  unfolding entity_of given_of
+  refused-by s {f} e ts = cases (eqb class 255) (λ t. rw t (free (rw t at e))) (λ t. rw t (given (rw t at e)))
     where
-      several : {k : ℕ} → Some k ≡ own_of d c r key (given_of class) T → {b : Bool} → b ≡ based d c r key T k → b ≡ true
-          → {m : Bool} → m ≡ several_based d c r key (given_of class) T → first_fault (meant ts) ≡ some f
-      several {k} p {b} x t {m} y =
-          cases m
-          (λ u. let q : Err f ≡ Err Faults.Several = e ∙ sym (admits-several d c r key T _ p x t y u) in
-          rw (entity-own p) (first_passes Faults.Absent _ (sym x ∙ t) ∙ (first-fails Faults.Several ts (ap not (sym y ∙ u)) ∙ cc)))
-          (λ u. let q : Err f ≡ Ok (record { key = key; class = k }) = e ∙ sym (admits-entity d c r key T _ p x t y u) in cc)
+      free : Err f ≡ own_of d c r key None T
+          → first_fault ((based d c r key T (first d c r key T), Faults.Absent) ∷ (leb (many d c r key T) 1, Faults.Several) ∷ ts) ≡ some f
+      free q =
+          sole-refused d c r key T s q
+          (λ t z. first-fails Faults.Absent _ t ∙ ap some (sym z))
+          (λ t u z. first_passes Faults.Absent _ t ∙ (first-fails Faults.Several ts u ∙ ap some (sym z)))
 
-      go : (o : Option ℕ) → o ≡ own_of d c r key (given_of class) T → first_fault (meant ts) ≡ some f
-      go None p =
-          let q : Err f ≡ Err Faults.Absent = e ∙ sym (admits-none d c r key T _ p) in
-          first-fails Faults.Absent _ (entity-none s p) ∙ cc
-      go (Some k) p =
-          cases (based d c r key T k)
-          (λ t. several p refl t refl)
-          (λ t. let q : Err f ≡ Err Faults.Absent = e ∙ sym (admits-unbased d c r key T _ p refl t) in
-          rw (entity-own p) (first-fails Faults.Absent _ t ∙ cc))
+      given : Err f ≡ own_of d c r key (Some class) T → first_fault ((based d c r key T class, Faults.Absent) ∷ (true, Faults.Several) ∷ ts) ≡ some f
+      given q =
+          cases (based d c r key T class)
+          (λ t. let z : Err f ≡ Ok class = q ∙ sym (given-based d c r key T refl refl t) in cc)
+          (λ t. let z : Err f ≡ Err Faults.Absent = q ∙ sym (given-unbased d c r key T refl refl t) in first-fails Faults.Absent _ t ∙ cc)
 
-  -- the entity that is answered is the one that is meant, and passes both
-  pub record Admits (e : Entity) : Type 0 where
-    pub key-is : e.key ≡ key
-    pub is : entity_of d c r key class T ≡ cell e.key e.class
-    pub there : based d c r key T e.class ≡ true
-    pub sole : several_based d c r key (given_of class) T ≡ false
+  -- the entity whose key class is answered is the one that is meant, and passes both
+  pub record Owns (own : ℕ) : Type 0 where
+    pub is : entity_of d c r key class T ≡ cell key own
+    pub there : based d c r key T own ≡ true
+    pub sole : (not (eqb class 255) || leb (many d c r key T) 1) ≡ true
 
-  pub admits : {e : Entity} → Ok e ≡ admitted d c r key (given_of class) T → Admits e
-  admits {e} p = go (own_of d c r key (given_of class) T) refl
+  pub owns : {own : ℕ} → Ok own ≡ own_of d c r key (given_of class) T → Owns own
+  unfolding entity_of given_of
+  owns {own} e = cases (eqb class 255) (λ t. free t (rw t at e)) (λ t. given t (rw t at e))
     where
-      sole : {k : ℕ} → Some k ≡ own_of d c r key (given_of class) T → based d c r key T k ≡ true → {m : Bool} → m ≡ several_based d c r key (given_of class) T → Admits e
-      sole {k} q t {m} y =
-          cases m
-          (λ u. let z : Ok e ≡ Err Faults.Several = p ∙ sym (admits-several d c r key T _ q refl t y u) in cc)
-          (λ u. let z : Ok e ≡ Ok (record { key = key; class = k }) = p ∙ sym (admits-entity d c r key T _ q refl t y u) in
-          let w : e ≡ record { key = key; class = k } = cc in
-          rw w (record { key-is = refl; is = entity-own q; there = t; sole = sym y ∙ u }))
+      free : eqb class 255 ≡ true → Ok own ≡ own_of d c r key None T → Owns own
+      free t q =
+          let f = sole-owned d c r key T q in
+          record { is = rw t (ap (cell key) (sym f.0)); there = rw (f.0) f.1.0; sole = rw t f.1.1 }
 
-      go : (o : Option ℕ) → o ≡ own_of d c r key (given_of class) T → Admits e
-      go None q = let z : Ok e ≡ Err Faults.Absent = p ∙ sym (admits-none d c r key T _ q) in cc
-      go (Some k) q =
-          cases (based d c r key T k)
-          (λ t. sole q t refl)
-          (λ t. let z : Ok e ≡ Err Faults.Absent = p ∙ sym (admits-unbased d c r key T _ q refl t) in cc)
-
--- a base row stands at a level that the subject sees
-pub based-over : (d : Description) (c r key own : ℕ) (T : Tables) → based d c r key T own ≡ true → over d c own ≡ true
-unfolding based
-based-over d c r key own T t = and_left _ _ t
+      given : eqb class 255 ≡ false → Ok own ≡ own_of d c r key (Some class) T → Owns own
+      given t q =
+          cases (based d c r key T class)
+          (λ u. let z : Ok own ≡ Ok class = q ∙ sym (given-based d c r key T refl refl u) in
+          let w : own ≡ class = cc in record { is = rw t (ap (cell key) (sym w)); there = rw w u; sole = rw t })
+          (λ u. let z : Ok own ≡ Err Faults.Absent = q ∙ sym (given-unbased d c r key T refl refl u) in cc)
 
 -- ---- the place of the new row
 
@@ -249,10 +231,6 @@ module _ {d : Description} {c n : ℕ} {E : Effect} {vs cs : List ℕ} (f : Faul
 
 -- ---- all tests
 
-not_twice : (b : Bool) → not (not b) ≡ b
-not_twice true = refl
-not_twice false = refl
-
 -- what the subject sees of the levels that are named
 pub sees-class : (d : Description) (c : ℕ) {o : Option ℕ} {class : ℕ} {b : Bool} → o ≡ Some class → b ≡ over d c class → b ≡ class_seen d c o
 unfolding class_seen
@@ -279,15 +257,11 @@ seen-either : (d : Description) (c class : ℕ) → (eqb class 255 || over d c c
 unfolding class_seen given_of
 seen-either d c class = cases (eqb class 255) (λ t. rw t) (λ t. rw t)
 
-several-either : (d : Description) (c r key class : ℕ) (T : Tables) → (not (eqb class 255) || leb (count_below d.levels (based d c r key T)) 1) ≡ not (several_based d c r key (given_of class) T)
-unfolding several_based given_of
-several-either d c r key class T = cases (eqb class 255) (λ t. rw t (sym (not_twice _))) (λ t. rw t)
-
 tests-are : (d : Description) (c r key class : ℕ) (list : List ℕ) (A : State)
     → uplevel_tests d c r key class list A ≡ ((levels_seen d c (given_of class) list, Faults.Unseen)
     ∷ (each (λ k a. in_range d r k a) list, Faults.Range) ∷ meant d c r key class (rows_of A) (later_tests d c r (entity_of d c r key class (rows_of A)) list A))
 unfolding uplevel_tests levels_seen later_tests entity_of
-tests-are d c r key class list A = rw (seen-either d c class, several-either d c r key class (rows_of A))
+tests-are d c r key class list A = rw (seen-either d c class)
 
 module _ (d : Description) (c r key class : ℕ) (list vs cs : List ℕ) {b : Bool} (x : b ≡ levels_seen d c (given_of class) list) where
   abbrev T : State
@@ -305,14 +279,14 @@ module _ (d : Description) (c r key class : ℕ) (list vs cs : List ℕ) {b : Bo
     range-answer u = rw (tests-are d c r key class list T) (test-passes Faults.Unseen _ (sym x ∙ t) (test-fails Faults.Range _ (range-is ∙ u)))
 
     module _ (u : h ≡ true) where
-      pub refused-answer : sound d ≡ true → {f : Fault} → Err f ≡ admitted d c r key (given_of class) (rows_of T) → Uplevels d c r key class list vs cs vs cs (Err f)
+      pub refused-answer : sound d ≡ true → {f : Fault} → Err f ≡ own_of d c r key (given_of class) (rows_of T) → Uplevels d c r key class list vs cs vs cs (Err f)
       refused-answer s e =
           rw (tests-are d c r key class list T)
           (test-passes Faults.Unseen _ (sym x ∙ t) (test-passes Faults.Range _ (range-is ∙ u) (refuses _ (refused-by d c r key class (rows_of T) s e _) refl refl refl)))
 
-      pub raised-answer : {e : Entity} → Ok e ≡ admitted d c r key (given_of class) (rows_of T) → {vs' cs' : List ℕ} {a : Answer}
-          → Raises d c r (cell e.key e.class) list vs cs vs' cs' a → Uplevels d c r key class list vs cs vs' cs' a
-      raised-answer {e} p A =
-          let q = admits d c r key class (rows_of T) p in
+      pub raised-answer : {own : ℕ} → Ok own ≡ own_of d c r key (given_of class) (rows_of T) → {vs' cs' : List ℕ} {a : Answer}
+          → Raises d c r (cell key own) list vs cs vs' cs' a → Uplevels d c r key class list vs cs vs' cs' a
+      raised-answer p A =
+          let q = owns d c r key class (rows_of T) p in
           rw (tests-are d c r key class list T, q.is)
-          (test-passes Faults.Unseen _ (sym x ∙ t) (test-passes Faults.Range _ (range-is ∙ u) (test-passes Faults.Absent _ q.there (test-passes Faults.Several _ (ap not q.sole) A))))
+          (test-passes Faults.Unseen _ (sym x ∙ t) (test-passes Faults.Range _ (range-is ∙ u) (test-passes Faults.Absent _ q.there (test-passes Faults.Several _ q.sole A))))

@@ -3,7 +3,7 @@
 use Rattle.std.specs.Prelude.{Option, is_some}
 use Prim.Native.Nat.{ℕ, ◌%◌, ◌/◌, ◌≤◌, ◌<◌}
 use mathlib.Core.Path.{◌≡◌, refl, sym, ap, ◌∙◌}
-use mathlib.Core.Bool.{Bool, true, false, not, ◌&&◌, ◌||◌}
+use mathlib.Core.Bool.{true, not, ◌&&◌, ◌||◌}
 use mathlib.Core.Logic.{◌≢◌, ◌⊎◌, inl, inr}
 use mathlib.Core.List.{List}
 use native.Mathlib.Omega.{arith}
@@ -41,12 +41,13 @@ module _ (d : Description) (r key class : ℕ) (list : List ℕ) (t : uplevel_fo
       let h = of-true (and_r (bool-r (whole 2 list)) (and_r (bool-r (each (λ k a. is_column d r k && is_level d a) list)) (and_r (bool-r (columns_once list)) (and_r (bool-r (not (lists list 1))) (and_r (not-r (eqb-r key 0)) (or_r (eqb-r class 255) (ltb-r class d.levels))))))) t in
       (h.1.0, (h.1.1.1.1.0, h.1.1.1.1.1))
 
+  -- there is a key
   pub formed-key : key ≢ 0
   formed-key = says.1.0
 
-  -- there is a key, and the columns and FROM levels that are listed exist
-  pub formed-lists : (c : ℕ) → each (λ k a. over d c a) list ≡ true → Listing d r c key list
-  formed-lists c s = record { some_key = formed-key; columns = says.0; seen = s }
+  -- the columns and FROM levels that are listed exist
+  pub formed-lists : (c : ℕ) → each (λ k a. over d c a) list ≡ true → Listing d r c list
+  formed-lists c s = record { columns = says.0; seen = s }
 
   -- a key class that is given exists, so its number is below 256
   pub class-small : d.levels ≤ 16 → class ≤ 255

@@ -247,14 +247,14 @@ raised-beyond d c r e list W h s k b = rw (ne_eqb k 1 (λ q. clash (is_true (bet
     go none q = rw b
     go (some a) q = clash (listed-column d r list k a s q) b
 
-module _ {d : Description} {r c : ℕ} {vs cs : List ℕ} (St : Standing d r c vs cs) (key class : ℕ) (list : List ℕ) (L : Listing d r c key list)
+module _ {d : Description} {r c : ℕ} {vs cs : List ℕ} (St : Standing d r c vs cs) (key class : ℕ) (list : List ℕ) (nz : key ≢ 0) (L : Listing d r c list)
     {here : Opt ℕ} {row : ℕ} (h : Sought d r (entity_place d vs cs r c key class) here) (w : Some row ≡ spot_of d r here (state_of d (holding vs cs) c).rows) where
   abbrev S : State
   S = state_of d (holding vs cs)
 
   there-is : is_some here ≡ same (seek (row_count d r) ((S c).rows r) key 1) (cell key class)
   unfolding at
-  there-is = entity-is d vs cs r c key class L.some_key h
+  there-is = entity-is d vs cs r c key class nz h
 
   -- it is the entity's, or the lowest empty one
   spot_is : (row < row_count d r) × (row ≡ (if is_some here then place (row_count d r) ((S c).rows r) key else lowest_empty d (S c).rows r))
@@ -273,7 +273,7 @@ module _ {d : Description} {r c : ℕ} {vs cs : List ℕ} (St : Standing d r c v
   pub row-used : is_some here ≡ true → ((S c).rows r row 1).value ≢ 0
   row-used u z =
       let q : row ≡ place (row_count d r) ((S c).rows r) key = spot_is.1 ∙ rw u in
-      L.some_key (sym (place-key (row_count d r) ((S c).rows r) key (rw q at in_rows)) ∙ ap (λ (i : ℕ). ((S c).rows r i 1).value) (sym q) ∙ z)
+      nz (sym (place-key (row_count d r) ((S c).rows r) key (rw q at in_rows)) ∙ ap (λ (i : ℕ). ((S c).rows r i 1).value) (sym q) ∙ z)
 
   module _ {news : News} (C : Composed d c r (cell key class) list (rows_of (seen d c S)) news) where
     R : Row

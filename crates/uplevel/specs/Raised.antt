@@ -1,15 +1,12 @@
 -- What UPLEVEL's functions know and promise of the tables in two lists: vs and cs before, vs' and cs' after.
 -- Assumes nothing: these are statements.
-use Rattle.std.specs.Prelude.{ℕ, ◌<◌, ◌≡◌, Bool, true, List, ◌≢◌, length}
-use Rattle.std.proofs.Math.Option.{some}
+use Rattle.std.specs.Prelude.{ℕ, ◌≡◌, Bool, true, List, ◌≢◌}
 use Rattle.model.specs.declared.Description.{Description}
-use Rattle.std.specs.Prelude.{Ok, Err}
 use Rattle.model.specs.Answers.{Answer}
-use Rattle.model.specs.Description.{row_count, column_count}
+use Rattle.model.specs.Description.{column_count}
 use Rattle.model.specs.Tables.{Cell, rows_of, at}
 use Rattle.model.specs.Buffers.{holding, state_of}
 use Rattle.model.specs.Uplevel.{borrowed, raised, uplevelled}
-use Rattle.model.specs.Run.{left}
 use Rattle.cells.specs.Changed.{listed_row, with_row, change_level}
 use Rattle.above.specs.declared.plan.Plan.{Plan}
 use Rattle.above.specs.Facts.{carried}

@@ -1,11 +1,11 @@
 -- What UPLEVEL's own functions know and promise.
 -- Assumes nothing: these are definitions and statements.
-use Rattle.std.specs.Prelude.{◌≡◌, Bool, true, false, not, ◌&&◌, ◌||◌, List, [], ◌∷◌, ◌≢◌, ℕ, ◌<◌, Option, Some, None, Result, Ok, Err, eqb, leb, length, get_or, set, replicate, if◌then◌else◌}
+use Rattle.std.specs.Prelude.{◌≡◌, Bool, true, false, not, ◌&&◌, ◌||◌, List, [], ◌∷◌, ℕ, ◌<◌, Option, Some, None, Result, Ok, Err, eqb, leb, length, get_or, set, replicate, if◌then◌else◌}
 use Rattle.bounded.specs.Bounded.{first_below, count_below, some_below}
 use Rattle.model.specs.declared.Description.{Description}
 use Rattle.model.specs.declared.Fault.{Fault}
 use Rattle.model.specs.declared.Fault.TheVariants as Faults
-use Rattle.model.specs.Description.{is_level, over, is_relation, is_column, row_count, column_count, foreign_of, total_of, sound}
+use Rattle.model.specs.Description.{is_level, over, is_column, row_count, column_count, foreign_of}
 use Rattle.model.specs.Tables.{Cell, Tables, State, rows_of, same, used, at}
 use Rattle.model.specs.Listed.{each}
 use Rattle.model.specs.Effect.{Rows, agrees, lowest_empty, has_room}
@@ -14,25 +14,14 @@ use Rattle.above.specs.declared.plan.Change.{Change}
 use Rattle.above.specs.declared.plan.Change.TheVariants as Changes
 use Rattle.above.specs.declared.plan.Plan.{Plan}
 use Rattle.uplevel.specs.declared.made.News.{News}
-use Rattle.uplevel.specs.declared.meant.Entity.{Entity}
 use Rattle.change.specs.Facts.{Filled}
 
 -- ---- what is known
 
--- there is a key; every column of the list exists, and the subject sees its FROM levels
-pub record Listing (d : Description) (r c key : ℕ) (list : List ℕ) : Type 0 where
-  pub some_key : key ≢ 0
+-- every column of the list exists, and the subject sees its FROM levels
+pub record Listing (d : Description) (r c : ℕ) (list : List ℕ) : Type 0 where
   pub columns : each (λ k a. is_column d r k && is_level d a) list ≡ true
   pub seen : each (λ k a. over d c a) list ≡ true
-
--- a relation of a sound description, a level, the buffers' lengths, and such a list
-pub record Raising (d : Description) (r c key : ℕ) (list : List ℕ) (m n : ℕ) : Type 0 where
-  pub sound-is : sound d ≡ true
-  pub relation : is_relation d r ≡ true
-  pub level : c < d.levels
-  pub long : m ≡ total_of d
-  pub wide : n ≡ total_of d
-  pub lists : Listing d r c key list
 
 -- ---- the key class
 
@@ -49,26 +38,16 @@ class_seen d c (Some class) = over d c class
 unfoldable pub levels_seen : Description → ℕ → Option ℕ → List ℕ → Bool
 levels_seen d c given list = class_seen d c given && each (λ k a. over d c a) list
 
--- the one that is given, or the lowest with a base row that the subject sees
-unfoldable pub own_of : Description → ℕ → ℕ → ℕ → Option ℕ → Tables → Option ℕ
-own_of d c r key None T = some_below d.levels (first_below d.levels (based d c r key T))
-own_of d c r key (Some class) T = Some class
+-- the first one with a base row that the subject sees, where at most one has
+unfoldable pub sole_of : Option ℕ → ℕ → Result ℕ Fault
+sole_of None many = Err Faults.Absent
+sole_of (Some class) many = if leb many 1 then Ok class else Err Faults.Several
 
--- none is given, and there are several
-unfoldable pub several_based : Description → ℕ → ℕ → ℕ → Option ℕ → Tables → Bool
-several_based d c r key None T = not (leb (count_below d.levels (based d c r key T)) 1)
-several_based d c r key (Some class) T = false
-
--- the entity that is meant: it is there, and it is the only one
-unfoldable pub admitted : Description → ℕ → ℕ → ℕ → Option ℕ → Tables → Result Entity Fault
-admitted d c r key given T =
-    elim (own_of d c r key given T) [
-      | None ↦ Err Faults.Absent
-      | Some class ↦
-          if based d c r key T class
-          then (if several_based d c r key given T then Err Faults.Several else Ok (record { key = key; class = class }))
-          else Err Faults.Absent
-    ]
+-- the one that is given, where it has such a base row, else the only one that has
+unfoldable pub own_of : Description → ℕ → ℕ → ℕ → Option ℕ → Tables → Result ℕ Fault
+own_of d c r key None T =
+    sole_of (some_below d.levels (first_below d.levels (based d c r key T))) (count_below d.levels (based d c r key T))
+own_of d c r key (Some class) T = if based d c r key T class then Ok class else Err Faults.Absent
 
 -- ---- the tests
 

@@ -20,7 +20,7 @@ pub(crate) fn lent(
     entity: Entity,
     column: usize,
 ) -> u32
-    requires lent { Lent part.description (length values.now) (length classes.now) × (entity.key ≢ 0) }
+    requires lent { Lent part.description (length values.now) (length classes.now) }
     requires in_level { InLevel part.description part.relation level × (is_column part.description part.relation column ≡ true) }
     ensures { result ≡ (lends (at part.description (rows_of (state_of part.description (holding values.now classes.now))) part.relation level entity.key) (cell entity.key entity.class) column level).value }
 {

@@ -8,7 +8,6 @@ mod meant;
 mod tests;
 
 ghost use Rattle.std.specs.Prelude.{◌≡◌, true, ◌≤◌};
-ghost use Rattle.model.specs.Description.{over as over_of};
 ghost use Rattle.model.specs.Tables.{cell};
 ghost use Rattle.model.specs.Uplevel.{uplevel_formed};
 ghost use Rattle.change.specs.Facts.{Standing, Uplevels};
@@ -17,7 +16,7 @@ ghost use Rattle.uplevel.specs.Raised.{Raises};
 
 use crate::effect::{spot, write};
 use crate::made::compose;
-use crate::meant::{Entity, admit};
+use crate::meant::{Entity, own};
 use crate::tests::check;
 use asked::columns::Columns;
 use asked::levels::Levels;
@@ -51,8 +50,7 @@ fn raise(
     entity: Entity,
 ) -> Answer
     requires standing { Standing table.part.description table.part.relation subject values.old classes.old }
-    requires listing { Listing table.part.description table.part.relation subject entity.key list.now }
-    requires class_seen { over_of table.part.description subject entity.class ≡ true }
+    requires listing { Listing table.part.description table.part.relation subject list.now }
     ensures { Raises table.part.description subject table.part.relation (cell entity.key entity.class) list.now values.old classes.old values.new classes.new result }
 {
     let part = table.part;
@@ -114,6 +112,7 @@ pub fn uplevel(
     if !columns.each(list, Rule::Lends) {
         return Err(Fault::Range);
     }
-    let entity = admit(values, classes, table, subject, key, given)?;
+    let own = own(values, classes, table, subject, key, given)?;
+    let entity = Entity { key, class: own };
     raise(values, classes, list, table, subject, entity)
 }

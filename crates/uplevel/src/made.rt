@@ -1,5 +1,5 @@
 // The new row.
-ghost use Rattle.std.specs.Prelude.{◌≡◌, true, ◌≢◌};
+ghost use Rattle.std.specs.Prelude.{◌≡◌, true};
 ghost use Rattle.model.specs.Description.{is_column, over as over_of};
 ghost use Rattle.model.specs.Tables.{cell, rows_of};
 ghost use Rattle.change.specs.Facts.{Standing, sight};
@@ -36,7 +36,7 @@ fn take(
     from: usize,
 ) -> New
     requires standing { Standing table.part.description table.part.relation subject values.now classes.now × (is_column table.part.description table.part.relation column ≡ true) }
-    requires key_nonzero { (entity.key ≢ 0) × (over_of table.part.description subject from ≡ true) }
+    requires lender_seen { over_of table.part.description subject from ≡ true }
     ensures { Borrows table.part.description subject table.part.relation (cell entity.key entity.class) column from values.now classes.now (cell result.value result.class) }
 {
     let part = table.part;
@@ -60,7 +60,7 @@ fn borrow(
     column: usize,
 ) -> New
     requires standing { Standing table.part.description table.part.relation subject values.now classes.now × (is_column table.part.description table.part.relation column ≡ true) }
-    requires listing { Listing table.part.description table.part.relation subject entity.key list.now }
+    requires listing { Listing table.part.description table.part.relation subject list.now }
     ensures { Makes table.part.description subject table.part.relation (cell entity.key entity.class) list.now column values.now classes.now (cell result.value result.class) }
 {
     if column == 1 {
@@ -87,7 +87,7 @@ pub(crate) fn compose(
     entity: Entity,
 ) -> News
     requires standing { Standing table.part.description table.part.relation subject values.now classes.now }
-    requires listing { Listing table.part.description table.part.relation subject entity.key list.now }
+    requires listing { Listing table.part.description table.part.relation subject list.now }
     ensures { Composed table.part.description subject table.part.relation (cell entity.key entity.class) list.now (rows_of (sight table.part.description subject values.now classes.now)) result }
 {
     let mut news = [0; 9];

@@ -7,7 +7,7 @@ ghost use Rattle.cells.specs.Layout.{Sized, InLevel, Row};
 ghost use Rattle.cells.specs.Changed.{key_place, entity_place};
 ghost use Rattle.change.specs.Facts.{Standing, sight};
 ghost use Rattle.change.specs.Tests.{ended};
-ghost use Rattle.uplevel.specs.Raising.{Listing, Raising, later_tests};
+ghost use Rattle.uplevel.specs.Raising.{Listing, later_tests};
 
 use crate::lenders::lent;
 use crate::meant::Entity;
@@ -26,7 +26,8 @@ fn borrowed(
     subject: usize,
     entity: Entity,
 ) -> bool
-    requires { Raising part.description part.relation subject entity.key list.now (length values.now) (length classes.now) }
+    requires standing { Standing part.description part.relation subject values.now classes.now }
+    requires listing { Listing part.description part.relation subject list.now }
     ensures { result ≡ borrowed_names part.description subject part.relation (cell entity.key entity.class) list.now (rows_of (sight part.description subject values.now classes.now)) }
 {
     let description = part.description;
@@ -63,7 +64,7 @@ pub(crate) fn check(
     here: Option<usize>,
 ) -> Result<(), Fault>
     requires standing { Standing table.part.description table.part.relation subject values.now classes.now }
-    requires listing { Listing table.part.description table.part.relation subject entity.key list.now }
+    requires listing { Listing table.part.description table.part.relation subject list.now }
     requires found { Row table.part.description table.part.relation (entity_place table.part.description values.now classes.now table.part.relation subject entity.key entity.class) here }
     ensures { result ≡ ended (take 3 (later_tests table.part.description subject table.part.relation (cell entity.key entity.class) list.now (sight table.part.description subject values.now classes.now))) }
 {

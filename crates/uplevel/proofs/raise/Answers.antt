@@ -9,42 +9,36 @@ use Rattle.uplevel.proofs.Upfaults.{unfound, full, room}
 use Rattle.uplevel.proofs.Uplevelled.{in_rows, row-used, uplevel-left}
 use Rattle.uplevel.proofs.raise.Goals as goal
 
-pub entity-here-requires : goal.entity-here-requires
-entity-here-requires c = let s = c.requires.standing in record { lent = lent s; in_level = own-level s }
-
-pub check-requires : goal.check-requires
-check-requires c = record { standing = c.requires.standing; listing = c.requires.listing; found = c.entity-here.ensures }
+pub entity-here-requires-clause-in_level : goal.entity-here-requires-clause-in_level
+entity-here-requires-clause-in_level c = own-level c.requires.standing
 
 pub returns-in_err-check : goal.returns-in_err-check
 returns-in_err-check c = let p = err_from_is_err_and c.from_residual.result c.from_residual.ensures.1 in
     rw (p.1, p.2) (refuses _ (first-begun 3 _ (failed-by c.in_err-check.ensures refl)) refl refl refl)
 
-pub spot-requires : goal.spot-requires
-spot-requires c = let s = c.requires.standing in record { lent = lent s; in_level = own-level s }
+pub spot-requires-clause-in_level : goal.spot-requires-clause-in_level
+spot-requires-clause-in_level c = own-level c.requires.standing
 
 pub returns-in_err-row : goal.returns-in_err-row
 returns-in_err-row c = let s = c.requires.standing in
     let p = err_from_is_err_and c.from_residual-in_err-row.result c.from_residual-in_err-row.ensures.1 in
     let f = c.in_err-row.ensures in
     let v = unfound f.value in
-    rw (p.1, p.2, v.1) (refuses _ (full _ _ _ _ _ _ _ (own-over s) c.requires.listing.some_key c.entity-here.ensures _ c.in_ok-check.ensures c.spot.ensures v.0) refl refl refl)
-
-pub compose-news-requires : goal.compose-news-requires
-compose-news-requires c = record { standing = c.requires.standing; listing = c.requires.listing }
+    rw (p.1, p.2, v.1) (refuses _ (full _ _ _ _ _ _ _ (own-over s) c.args.entity.keyed c.entity-here.ensures _ c.in_ok-check.ensures c.spot.ensures v.0) refl refl refl)
 
 pub write-requires : goal.write-requires
 write-requires c = let s = c.requires.standing in
     let w = sym c.in_ok-row.ensures.ok_part ∙ c.spot.ensures in
     record {
-      standing = (s, in_rows s _ _ _ c.requires.listing c.entity-here.ensures w);
-      replacing = rw (c.is_some.ensures) (row-used s _ _ _ c.requires.listing c.entity-here.ensures w);
+      standing = (s, in_rows s _ _ _ c.args.entity.keyed c.requires.listing c.entity-here.ensures w);
+      replacing = rw (c.is_some.ensures) (row-used s _ _ _ c.args.entity.keyed c.requires.listing c.entity-here.ensures w);
     }
 
 pub returns : goal.returns
 returns c = let s = c.requires.standing in
     let w = sym c.in_ok-row.ensures.ok_part ∙ c.spot.ensures in
     let k = c.args.table.part.laid in
-    let h = in_rows s _ _ _ c.requires.listing c.entity-here.ensures w in
+    let h = in_rows s _ _ _ c.args.entity.keyed c.requires.listing c.entity-here.ensures w in
     let m = rw (c.is_some.ensures) at c.write.ensures in
-    does (room _ _ _ _ _ _ _ (own-over s) c.requires.listing.some_key c.entity-here.ensures _ c.in_ok-check.ensures c.spot.ensures c.in_ok-row.ensures.ok_part) refl
-    (uplevel-left s _ _ _ c.requires.listing c.entity-here.ensures w c.compose-news.ensures (omega (arith, k.narrow, k.columns)) (omega (arith, k.few, k.rows, h)) m)
+    does (room _ _ _ _ _ _ _ (own-over s) c.args.entity.keyed c.entity-here.ensures _ c.in_ok-check.ensures c.spot.ensures c.in_ok-row.ensures.ok_part) refl
+    (uplevel-left s _ _ _ c.args.entity.keyed c.requires.listing c.entity-here.ensures w c.compose-news.ensures (omega (arith, k.narrow, k.columns)) (omega (arith, k.few, k.rows, h)) m)

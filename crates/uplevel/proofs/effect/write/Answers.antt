@@ -5,9 +5,6 @@ use Rattle.change.proofs.Known.{lent, own-level}
 use Rattle.uplevel.proofs.Uplevelled.{working, planned}
 use Rattle.uplevel.proofs.effect.write.Goals as goal
 
-pub choose-chosen-requires : goal.choose-chosen-requires
-choose-chosen-requires c = omega (arith, c.args.table.part.laid.few, c.args.table.part.laid.rows, c.requires.standing.1)
-
 pub above-requires-clause-carrying : goal.above-requires-clause-carrying
 above-requires-clause-carrying c = let s = c.requires.standing.0 in (lent s, working s)
 
@@ -16,14 +13,5 @@ above-requires-clause-planned_in c =
     planned (record { chosen = c.choose-chosen.ensures; gone = refl; changes = c.changes-changes.ensures }) _ _ _ _
     (omega (arith, c.args.table.part.laid.few, c.args.table.part.laid.rows, c.requires.standing.1)) c.requires.replacing
 
-pub store-requires : goal.store-requires
-store-requires c = let s = c.requires.standing.0 in
-    let k = c.above.auto in
-    record { lent = record { values = k.values ∙ s.long; classes = k.classes ∙ s.wide }; in_row = record { level = own-level s; row = c.requires.standing.1 } }
-
-pub returns : goal.returns
-returns c = record {
-  plan = _;
-  planning = record { chosen = c.choose-chosen.ensures; gone = refl; changes = c.changes-changes.ensures };
-  is = c.store.ensures ∙ ap (change_level _ _) c.above.ensures;
-}
+pub store-requires-clause-in_row : goal.store-requires-clause-in_row
+store-requires-clause-in_row c = record { level = own-level c.requires.standing.0; row = c.requires.standing.1 }

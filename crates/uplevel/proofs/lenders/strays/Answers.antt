@@ -16,12 +16,9 @@ returns-then-column-description c = strays-other _ _ _ _ _ _ _ (foreign-is _ _ c
 pub returns-then-value-eq0 : goal.returns-then-value-eq0
 returns-then-value-eq0 c = strays-null _ _ _ _ _ _ _ (foreign-is _ _ c.requires.reaching.relation) c.if-column-description.false c.if-value-eq0.true
 
-pub lay-target-requires : goal.lay-target-requires
-lay-target-requires c = record { sound_description = c.requires.reaching.sound-is; known_relation = target-relation _ c.requires.reaching.sound-is _ c.requires.reaching.relation (λ z. c.requires.column_nonzero (c.if-column-description.false ∙ foreign-is _ _ c.requires.reaching.relation ∙ z)) }
-
-pub agree-requires-clause-lent : goal.agree-requires-clause-lent
-agree-requires-clause-lent c = let q = c.requires.reaching in
-    rw (c.lay-target.ensures.described) (record { values = q.values; classes = q.classes }, c.if-value-eq0.false)
+pub lay-target-requires-clause-known_relation : goal.lay-target-requires-clause-known_relation
+lay-target-requires-clause-known_relation c = let q = c.requires.reaching in
+    target-relation _ q.sound-is _ q.relation (λ z. c.requires.column_nonzero (c.if-column-description.false ∙ foreign-is _ _ q.relation ∙ z))
 
 pub agree-requires-clause-in_level : goal.agree-requires-clause-in_level
 agree-requires-clause-in_level c = let q = c.requires.reaching in

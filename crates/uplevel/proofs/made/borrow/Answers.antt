@@ -11,9 +11,6 @@ pub returns-in_default : goal.returns-in_default
 returns-in_default c = let x = rw (c.columns.ensures.described, c.columns.ensures.of_relation) at c.null-class.ensures in
     raised-unlisted _ _ _ _ _ _ _ c.if-column-eq1.false (listed-none _ _ c.in_default.ensures) x
 
-pub overflow_cast-subject : goal.overflow_cast-subject
-overflow_cast-subject c = omega (arith, c.requires.standing.0.level, (sound-says _ c.requires.standing.0.sound-is).few-levels)
-
 pub overflow_mul-from : goal.overflow_mul-from
 overflow_mul-from c = omega (arith, pair-there _ _ c.in-Some.ensures)
 
@@ -26,8 +23,8 @@ offset_bounds-list-at c = omega (arith, pair-there _ _ c.in-Some.ensures)
 pub bounds-list-at : goal.bounds-list-at
 bounds-list-at c = omega (arith, pair-there _ _ c.in-Some.ensures)
 
-pub take-requires : goal.take-requires
-take-requires c = record { standing = c.requires.standing; key_nonzero = (c.requires.listing.some_key, from-seen _ _ _ _ c.requires.listing.seen c.in-Some.ensures) }
+pub take-requires-clause-lender_seen : goal.take-requires-clause-lender_seen
+take-requires-clause-lender_seen c = from-seen _ _ _ _ c.requires.listing.seen c.in-Some.ensures
 
 pub returns : goal.returns
 returns c = raised-listed _ _ _ _ _ _ _ c.if-column-eq1.false (listed-some _ _ c.in-Some.ensures) c.take.ensures

@@ -7,22 +7,23 @@ use Rattle.uplevel.proofs.Entities.{level-few}
 use Rattle.uplevel.proofs.Borrowing.{taken-strayed, taken-lent}
 use Rattle.uplevel.proofs.made.take.Goals as goal
 
-pub lent-value-requires : goal.lent-value-requires
-lent-value-requires c = let q = c.requires.standing.0 in
-    record { lent = (lent q, c.requires.key_nonzero.0); in_level = (in-level _ q.sound-is _ q.relation _ (level-few _ q.sound-is _ _ c.requires.key_nonzero.1).0, c.requires.standing.1) }
+pub lent-value-requires-clause-in_level : goal.lent-value-requires-clause-in_level
+lent-value-requires-clause-in_level c = let q = c.requires.standing.0 in
+    (in-level _ q.sound-is _ q.relation _ (level-few _ q.sound-is _ _ c.requires.lender_seen).0, c.requires.standing.1)
 
-pub strays-requires : goal.strays-requires
-strays-requires c = let q = c.requires.standing.0 in record { reaching = record { sound-is = q.sound-is; relation = q.relation; subject = q.level; level = (level-few _ q.sound-is _ _ c.requires.key_nonzero.1).0; values = q.long; classes = q.wide }; column_nonzero = λ z. omega (arith, (of-true (column-r _ _ _) c.requires.standing.1).0, z) }
+pub strays-requires-clause-reaching : goal.strays-requires-clause-reaching
+strays-requires-clause-reaching c = let q = c.requires.standing.0 in
+    record { sound-is = q.sound-is; relation = q.relation; subject = q.level; level = (level-few _ q.sound-is _ _ c.requires.lender_seen).0; values = q.long; classes = q.wide }
 
-pub overflow_cast-subject : goal.overflow_cast-subject
-overflow_cast-subject c = omega (arith, c.requires.standing.0.level, (sound-says _ c.requires.standing.0.sound-is).few-levels)
+pub strays-requires-clause-column_nonzero : goal.strays-requires-clause-column_nonzero
+strays-requires-clause-column_nonzero c = λ z. omega (arith, (of-true (column-r _ _ _) c.requires.standing.1).0, z)
 
 pub returns-then-strays : goal.returns-then-strays
 returns-then-strays c = let x = rw (c.columns.ensures.described, c.columns.ensures.of_relation) at c.null-class.ensures in
-    taken-strayed _ _ _ _ _ _ _ (own-over c.requires.standing.0) c.requires.key_nonzero.1 c.lent-value.ensures c.strays.ensures c.if-strays.true x
+    taken-strayed _ _ _ _ _ _ _ (own-over c.requires.standing.0) c.requires.lender_seen c.lent-value.ensures c.strays.ensures c.if-strays.true x
 
 pub overflow_cast-class : goal.overflow_cast-class
-overflow_cast-class c = omega (arith, (level-few _ c.requires.standing.0.sound-is _ _ c.requires.key_nonzero.1).1)
+overflow_cast-class c = omega (arith, (level-few _ c.requires.standing.0.sound-is _ _ c.requires.lender_seen).1)
 
 pub returns : goal.returns
-returns c = taken-lent _ _ _ _ _ _ _ (own-over c.requires.standing.0) c.requires.key_nonzero.1 c.lent-value.ensures c.strays.ensures c.if-strays.false
+returns c = taken-lent _ _ _ _ _ _ _ (own-over c.requires.standing.0) c.requires.lender_seen c.lent-value.ensures c.strays.ensures c.if-strays.false

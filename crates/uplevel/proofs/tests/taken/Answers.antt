@@ -5,6 +5,3 @@ use Rattle.uplevel.proofs.tests.taken.Goals as goal
 
 pub returns-then-is_none : goal.returns-then-is_none
 returns-then-is_none c = let n = c.if-is_none.ensures in rw n (c.is_some.ensures ∙ (ap is_some c.find.ensures ∙ some-is _ _))
-
-pub returns-else-is_none : goal.returns-else-is_none
-returns-else-is_none c = let n = c.if-is_none.ensures in rw (c.if-is_none.false, n)
