@@ -10,9 +10,6 @@ unfolding update_tests
 returns-then-not-each c = let e = rw (c.columns.ensures.described, c.columns.ensures.of_relation) at c.each.ensures in
     fails _ _ (range-test _ _ _ _ e ∙ c.if-not-each.true)
 
-pub reference-requires : goal.reference-requires
-reference-requires c = naming c.requires.standing
-
 pub returns-then-not-reference : goal.returns-then-not-reference
 unfolding update_tests
 returns-then-not-reference c = let e = rw (c.columns.ensures.described, c.columns.ensures.of_relation) at c.each.ensures in
