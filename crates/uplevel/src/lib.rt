@@ -14,7 +14,7 @@ ghost use Rattle.change.specs.Facts.{Standing, Uplevels};
 ghost use Rattle.uplevel.specs.Raising.{Listing, given_of, class_seen, levels_seen};
 ghost use Rattle.uplevel.specs.Raised.{Raises};
 
-use crate::effect::{spot, write};
+use crate::effect::{reach, spot};
 use crate::made::compose;
 use crate::meant::{Entity, own};
 use crate::tests::check;
@@ -58,7 +58,8 @@ fn raise(
     check(values, classes, list, table, subject, entity, here)?;
     let row = spot(values, classes, part, subject, here).ok_or(Fault::Full)?;
     let news = compose(values, classes, list, table, subject, entity);
-    write(values, classes, table, subject, row, here.is_some(), news);
+    reach(values, classes, table, subject, here, news);
+    part.store(values, classes, subject, row, news.values, news.classes);
     Ok(1)
 }
 
