@@ -3,11 +3,10 @@
 use Rattle.std.specs.Prelude.{ℕ, ◌<◌, ◌≡◌, List, ◌≢◌, Option, Some, None}
 use Rattle.model.specs.declared.Description.{Description}
 use Rattle.model.specs.Answers.{Answer}
-use Rattle.model.specs.Description.{row_count, column_count}
+use Rattle.model.specs.Description.{row_count}
 use Rattle.model.specs.Tables.{Cell, State, rows_of, at}
 use Rattle.model.specs.Buffers.{holding, state_of}
 use Rattle.model.specs.Uplevel.{borrowed, raised, uplevelled}
-use Rattle.cells.specs.Changed.{listed_row, with_row, change_level}
 use Rattle.above.specs.declared.plan.Plan.{Plan}
 use Rattle.above.specs.Facts.{carried}
 use Rattle.change.specs.Facts.{sight, Answered}

@@ -4,7 +4,7 @@ use Rattle.std.proofs.lemmas.Result.{err_from_is_err_and}
 use Rattle.change.specs.Facts.{refuses, does}
 use Rattle.change.proofs.Answers.{first-begun}
 use Rattle.change.proofs.Ended.{failed-by}
-use Rattle.change.proofs.Known.{lent, own-level, own-over}
+use Rattle.change.proofs.Known.{own-level, own-over}
 use Rattle.uplevel.proofs.Entities.{entity-found}
 use Rattle.uplevel.proofs.Upfaults.{unfound, full, room}
 use Rattle.uplevel.proofs.Uplevelled.{in_rows, row-used, uplevel-left}
