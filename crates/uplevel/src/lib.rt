@@ -26,7 +26,8 @@ use model::{Answer, Fault};
 
 // ---- whether it is well formed
 
-// Every column and FROM level exists, no column is listed twice, the key is not, there is a key, and a key class that is given exists.
+// Every column and FROM level exists, no column is listed twice, the key is not, there is a key, and a key class that is given exists. A statement
+// gives it as a number, and 255 where it gives none.
 pub fn formed(list: &[u32], columns: Columns, key: u32, class: usize) -> bool
     ensures { result ≡ uplevel_formed columns.levels.description columns.relation key class list.now }
 {
