@@ -1,5 +1,6 @@
 -- A list's elements by their places: std's tests on lists as the bounded ones, and a list cut into entries of n elements.
 -- Assumes nothing.
+use Rattle.std.specs.Prelude.{if◌then◌else◌}
 use mathlib.Core.Path.{◌≡◌, refl, sym, ap, ap₂, ◌∙◌}
 use mathlib.Core.Bool.{Bool, not, ◌&&◌, ◌||◌, and-true, or-false, and_assoc, or_assoc}
 use mathlib.Core.List.{List, [], ◌∷◌}
@@ -8,16 +9,17 @@ use native.Mathlib.Omega.{arith}
 use lib.Dec.{eqb}
 use lib.ListN.{length, get_or, take, drop}
 use Rattle.std.specs.Simd.{first_chunks}
-use Rattle.std.specs.List.{list_all, list_any, position, position_or_len}
+use Rattle.std.specs.List.{list_all, list_any, filter, position, position_or_len}
 use Rattle.std.proofs.lemmas.List.{get_or-take, get_or-drop, get_or_default, length-take-le}
 use Rattle.std.proofs.lemmas.List.Sums.{position_or_len_is}
 use Rattle.model.specs.Description.{distinct_below}
 use Rattle.asked.specs.Facts.{first_of}
-use Rattle.bounded.specs.Bounded.{all_below, any_below, first_below, some_below}
+use Rattle.bounded.specs.Bounded.{all_below, any_below, count_below, first_below, some_below}
 use Rattle.bounded.proofs.All.{all-cong}
+use Rattle.bounded.proofs.Cases.{cases}
 use Rattle.bounded.proofs.First.{first-le, first_holds, first-before, first_cong}
 
--- ---- all, any and the first
+-- ---- all, any, the first, and how many
 
 all-front : (n : ℕ) (p : ℕ → Bool) → all_below (suc n) p ≡ (p 0 && all_below n (λ i. p (suc i)))
 unfolding all_below
@@ -28,6 +30,11 @@ any-front : (n : ℕ) (p : ℕ → Bool) → any_below (suc n) p ≡ (p 0 || any
 unfolding any_below
 any-front zero p = sym (or-false (p 0))
 any-front (suc n) p = ap (λ (b : Bool). b || p (suc n)) (any-front n p) ∙ or_assoc (p 0) _ _
+
+count-front : (n : ℕ) (p : ℕ → Bool) → count_below (suc n) p ≡ (if p 0 then 1 else 0) + count_below n (λ i. p (suc i))
+unfolding count_below
+count-front zero p = omega arith
+count-front (suc n) p = let e = count-front n p in omega arith
 
 module _ {A : Type 0} (p : A → Bool) (d : A) where
   pub all-listed : (xs : List A) → list_all p xs ≡ all_below (length xs) (λ i. p (get_or xs i d))
@@ -47,6 +54,16 @@ module _ {A : Type 0} (p : A → Bool) (d : A) where
       let e : position_or_len p xs ≡ first_below (length xs) q =
       position_or_len_is p xs _ d (first-le (length xs) q) (first-before (length xs) q) (first_holds (length xs) q) in
       rw e
+
+  pub count-listed : (xs : List A) → length (filter p xs) ≡ count_below (length xs) (λ i. p (get_or xs i d))
+  unfolding count_below
+  count-listed [] = refl
+  count-listed (x ∷ xs) =
+      let e = count-front (length xs) (λ i. p (get_or (x ∷ xs) i d)) in
+      let h = count-listed xs in
+      cases (p x)
+      (λ t. rw t (let f : count_below (suc (length xs)) (λ i. p (get_or (x ∷ xs) i d)) ≡ 1 + count_below (length xs) (λ i. p (get_or xs i d)) = rw t at e in omega arith))
+      (λ t. rw t (let f : count_below (suc (length xs)) (λ i. p (get_or (x ∷ xs) i d)) ≡ 0 + count_below (length xs) (λ i. p (get_or xs i d)) = rw t at e in omega arith))
 
 -- ---- entries of n elements
 

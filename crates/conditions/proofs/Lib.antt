@@ -1,3 +1,3 @@
-pub mod Choosing
 pub mod Meeting
+pub mod Choosing
 pub mod Settled

@@ -1,32 +1,52 @@
 -- What the functions on conditions know and promise.
 -- Assumes nothing: these are definitions and statements.
-use Rattle.std.specs.Prelude.{◌≡◌, Bool, true, false, not, ◌&&◌, List, ℕ, ◌≤◌, ◌<◌, eqb, length, get_or, if◌then◌else◌}
+use Rattle.std.specs.Prelude.{◌≡◌, Bool, true, false, not, ◌&&◌, List, ℕ, ◌≤◌, ◌<◌, eqb, leb, length, get_or, if◌then◌else◌, Option, MatchOption, Result, MatchResult}
 use Rattle.bounded.specs.Bounded.{count_below}
 use Rattle.model.specs.declared.Description.{Description}
-use Rattle.model.specs.Description.{over, row_count, column_count}
+use Rattle.model.specs.Description.{between, over, row_count, column_count}
 use Rattle.model.specs.Tables.{Row}
 use Rattle.model.specs.Buffers.{holding, state_of}
 use Rattle.model.specs.Conditions.{Condition, conditions_formed, meets, met}
 use Rattle.cells.specs.Changed.{value_at}
 use Rattle.asked.specs.Known.{Ordered}
-use Rattle.conditions.specs.declared.Asked.{Asked}
+use Rattle.conditions.specs.declared.condition.Asked.{Asked}
+use Rattle.conditions.specs.declared.condition.Test.{Test}
+use Rattle.conditions.specs.declared.condition.NoTest.{NoTest}
+use Rattle.conditions.specs.declared.condition.Test.TheVariants as Tests
 
--- a condition that was read from a list
+-- the number that stands for a test
+unfoldable pub number_of : Test → ℕ
+number_of Tests.Equal = 1
+number_of Tests.NotEqual = 2
+number_of Tests.Less = 3
+number_of Tests.AtMost = 4
+number_of Tests.Null = 5
+
+-- the condition that was read
 abbrev pub asks : Asked → Condition
-asks a = record { column = a.column; mark = a.mark; test = a.test; constant = a.constant }
+asks a = record { column = a.column; mark = if a.of_class then 1 else 0; test = number_of a.test; constant = a.constant }
 
--- `passes`, where it is known whether x is the constant and whether it is at most the constant
-unfoldable pub passes_by : ℕ → Bool → Bool → Bool
-passes_by test equal most =
-    if eqb test 1 then equal
+-- the condition that four numbers are
+abbrev pub condition_of : List ℕ → Condition
+condition_of q = record { column = get_or q 0 0; mark = get_or q 1 0; test = get_or q 2 0; constant = get_or q 3 0 }
+
+-- the test that a number stands for, where it stands for one
+abbrev pub Numbers : ℕ → Result Test NoTest → Type 0
+Numbers n t = MatchResult t (λ t. number_of t ≡ n) (λ e. between 1 5 n ≡ false)
+
+-- what a condition asks, where its mark and its test are some
+abbrev pub Read : Condition → Option Asked → Type 0
+Read q a = MatchOption a ((leb q.mark 1 && between 1 5 q.test) ≡ false) (λ a. asks a ≡ q)
+
+-- `meets_test`, where it is known whether x is null, whether it is the constant and whether it is at most the constant
+unfoldable pub passes_by : ℕ → Bool → Bool → Bool → Bool
+passes_by test null equal most =
+    if null then eqb test 5
+    else if eqb test 1 then equal
     else if eqb test 2 then not equal
     else if eqb test 3 then most && not equal
     else if eqb test 4 then most
     else false
-
--- "For classes, 3 is strictly dominated by and 4 dominated by."
-unfoldable pub at_most : Description → ℕ → ℕ → Bool
-at_most d a b = over d b a
 
 -- the levels that level a dominates; no number past the line's end is one of them
 pub record Line (d : Description) (a : ℕ) (line : List Bool) : Type 0 where

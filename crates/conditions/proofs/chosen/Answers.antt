@@ -1,7 +1,9 @@
 use native.Mathlib.Omega.{arith}
+use lib.ListN.{length}
+use Prim.Native.Nat.{◌<◌, ◌/◌}
 use Rattle.model.specs.Conditions.{condition_count}
 use Rattle.conditions.proofs.Choosing.{met_start, met-more, met-end}
-use Rattle.conditions.proofs.Meeting.{tested_at}
+use Rattle.conditions.proofs.Meeting.{entry-asks, asks-at, read-at, tested_at}
 use Rattle.conditions.proofs.chosen.Goals as goal
 
 -- The invariant: a row is chosen where it is in use and meets the conditions that were passed.
@@ -9,25 +11,29 @@ use Rattle.conditions.proofs.chosen.Goals as goal
 pub used-chosen-requires : goal.used-chosen-requires
 used-chosen-requires c = record { sized = c.requires.lent.values; in_level = c.requires.in_level }
 
-pub loop-i-init : goal.loop-i-init
-loop-i-init c = met_start _ _ _ _ _ _ _ _ c.used-chosen.ensures
+pub loop-condition-init : goal.loop-condition-init
+loop-condition-init c = met_start _ _ _ _ _ _ _ _ c.used-chosen.ensures
 
-pub read-asked-requires : goal.read-asked-requires
+pub unwrap-asked-requires : goal.unwrap-asked-requires
 unfolding condition_count
-read-asked-requires c = c.loop-i-test.true
+unwrap-asked-requires c =
+    let h : c.loop-condition.condition-index < length c.args.conditions.now / 4 = omega arith in
+    read-at _ _ _ _ c.requires.asking.formed h _ (rw c.as_chunks.ensures.front (entry-asks _ _ h)) _ c.read.ensures
 
 pub line-line-requires : goal.line-line-requires
 line-line-requires c = c.requires.asking.ordered
 
 pub invariant_of-filter : goal.invariant_of-filter
 unfolding condition_count
-invariant_of-filter c = record { tested = tested_at _ _ _ _ c.requires.asking.formed c.loop-i-test.true _ c.read-asked.ensures _ c.line-line.ensures }
+invariant_of-filter c =
+    let h : c.loop-condition.condition-index < length c.args.conditions.now / 4 = omega arith in
+    record { tested = tested_at _ _ _ _ c.requires.asking.formed h _ (asks-at _ _ c.as_chunks.ensures.front h c.read.ensures c.unwrap-asked.ensures) c.line-line.ensures }
 
-pub loop-i-preserved : goal.loop-i-preserved
-loop-i-preserved c = let l = c.loop-i in
-    met-more _ _ _ _ l.i _ _ l.invariant (rw c.read-asked.ensures at c.narrow.ensures)
+pub loop-condition-preserved : goal.loop-condition-preserved
+loop-condition-preserved c = let l = c.loop-condition in
+    met-more _ _ _ _ l.condition-index _ _ l.invariant (rw (asks-at _ _ c.as_chunks.ensures.front (omega arith) c.read.ensures c.unwrap-asked.ensures) at c.narrow.ensures)
 
 pub returns : goal.returns
 unfolding condition_count
-returns c = let l = c.loop-i in
-    met-end _ _ _ _ l.i _ (omega (arith, l.auto.i-end, c.loop-i-test.false)) l.invariant
+returns c = let l = c.loop-condition in
+    met-end _ _ _ _ l.condition-index _ (omega arith) l.invariant

@@ -4,6 +4,6 @@ use Rattle.conditions.specs.Facts.{ChosenBy}
 use Rattle.conditions.proofs.Choosing.{met_by}
 use Rattle.conditions.proofs.chosen.Given as goal
 
-abbrev pub invariant-loop-i : goal.invariant-loop-i
-invariant-loop-i l = let d = l.part.description in
-    ChosenBy (row_count d l.part.relation) (met_by d l.conditions ((state_of d (holding l.values l.classes) l.level).rows l.part.relation) l.i) l.chosen
+abbrev pub invariant-loop-condition : goal.invariant-loop-condition
+invariant-loop-condition l = let d = l.part.description in
+    ChosenBy (row_count d l.part.relation) (met_by d l.conditions ((state_of d (holding l.values l.classes) l.level).rows l.part.relation) l.condition-index) l.chosen

@@ -1,8 +1,11 @@
-use Rattle.conditions.proofs.Meeting.{line-none, line_of}
+use mathlib.Core.Path.{◌≡◌, ◌∙◌}
+use mathlib.Core.Bool.{false}
+use native.Mathlib.Omega.{arith}
+use lib.ListN.{get_or, replicate}
+use Rattle.conditions.proofs.Meeting.{line-at}
 use Rattle.conditions.proofs.line.Goals as goal
 
-pub returns-then-constant-ge16 : goal.returns-then-constant-ge16
-returns-then-constant-ge16 c = line-none _ _ _ c.requires c.if-constant-ge16.true
-
 pub returns : goal.returns
-returns c = line_of _ _ _ c.requires c.if-constant-ge16.false
+returns c =
+    let e : c.unwrap_or.result ≡ get_or c.args.order c.args.constant (replicate 16 false) = c.unwrap_or.ensures ∙ rw c.copied.ensures (c.get.ensures.lookup.4 (omega arith) _) in
+    rw e (line-at _ _ c.requires _)

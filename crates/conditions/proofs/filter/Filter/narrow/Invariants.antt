@@ -1,6 +1,6 @@
 use Rattle.model.specs.Buffers.{holding, state_of}
 use Rattle.conditions.specs.Facts.{asks, Narrowed}
-use Rattle.conditions.proofs.Filter.narrow.Given as goal
+use Rattle.conditions.proofs.filter.Filter.narrow.Given as goal
 
 abbrev pub invariant-loop-row : goal.invariant-loop-row
 invariant-loop-row l = let d = l.self.part.description in

@@ -1,7 +1,7 @@
 use native.Mathlib.Omega.{arith}
 use Rattle.conditions.proofs.Choosing.{narrowed_none, narrowed-more, narrowed-same, narrowed-end}
-use Rattle.conditions.proofs.Filter.narrow.Goals as goal
-use Rattle.conditions.proofs.Filter.narrow.Goals.{then-chosen-row, else-chosen-row}
+use Rattle.conditions.proofs.filter.Filter.narrow.Goals as goal
+use Rattle.conditions.proofs.filter.Filter.narrow.Goals.{then-chosen-row, else-chosen-row}
 
 -- The invariant: of the rows that were passed, those stay chosen that meet the condition.
 
