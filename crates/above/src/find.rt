@@ -30,21 +30,19 @@ impl Reached {
         requires one_row { OneRow self.part.description values.now self.part.relation self.subject }
         ensures { result ≡ touched_at self.part.description self.part.relation plan self.subject (state_of self.part.description (holding values.now classes.now)) self.level row }
     {
-        let part = self.part;
         let subject = self.subject as usize;
-        let key = part.value_at(values, self.level, row, 1);
+        let key = self.part.value_at(values, self.level, row, 1);
         if key == 0 {
             return false;
         }
-        let Some(own) = near(values, part, subject, key, row) else {
+        let Some(there) = near(values, self.part, subject, key, row) else {
             return false;
         };
-        let chosen = plan.chosen;
-        if !chosen[own] {
+        if !plan.chosen[there] {
             return false;
         }
-        let class = part.class_at(classes, self.level, row, 1);
-        part.class_at(classes, subject, own, 1) == class
+        let class = self.part.class_at(classes, self.level, row, 1);
+        self.part.class_at(classes, subject, there, 1) == class
     }
 
     // Whether the row with a key is emptied: a chosen entity of the subject's own.
@@ -55,21 +53,20 @@ impl Reached {
         if !plan.gone {
             return false;
         }
-        let part = self.part;
         let subject = self.subject as usize;
-        let Some(own) = part.find(values, subject, key) else {
+        let Some(own) = self.part.find(values, subject, key) else {
             return false;
         };
         if !plan.chosen[own] {
             return false;
         }
-        if part.class_at(classes, subject, own, 1) != self.subject {
+        if self.part.class_at(classes, subject, own, 1) != self.subject {
             return false;
         }
-        let Some(row) = part.find(values, self.level, key) else {
+        let Some(row) = self.part.find(values, self.level, key) else {
             return false;
         };
-        part.class_at(classes, self.level, row, 1) == self.subject
+        self.part.class_at(classes, self.level, row, 1) == self.subject
     }
 }
 

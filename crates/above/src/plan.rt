@@ -36,9 +36,10 @@ impl Change {
                 class: owner,
             } => {
                 if value == planned && class == owner {
-                    return (value, class);
+                    (value, class)
+                } else {
+                    (0, class)
                 }
-                (0, class)
             }
         }
     }

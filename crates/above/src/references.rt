@@ -68,18 +68,17 @@ impl Referrer {
         requires in_row { row < row_count self.part.description self.part.relation }
         ensures { ReferenceTurns self.part.description self.named.part.relation plan self.named.subject self.named.level self.part.relation row values.old classes.now values.new classes.now }
     {
-        let part = self.part;
         let subject = self.named.subject;
         let level = self.named.level;
-        let column = part.description.foreign[part.relation] as usize;
-        let key = part.value_at(values, level, row, column);
+        let column = self.part.description.foreign[self.part.relation] as usize;
+        let key = self.part.value_at(values, level, row, column);
         if !self.named.gone(values, classes, plan, key) {
             return;
         }
-        if kept(values, classes, part, column, subject, level, row) {
+        if kept(values, classes, self.part, column, subject, level, row) {
             return;
         }
-        part.put_value(values, level, row, column, 0);
+        self.part.put_value(values, level, row, column, 0);
     }
 
     // The relation's references at the level.

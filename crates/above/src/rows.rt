@@ -23,13 +23,12 @@ fn cells(
     requires in_row { InRow part.description part.relation level row }
     ensures { CellsTurn part.description part.relation plan subject level row values.old classes.old values.new classes.new }
 {
-    let changes = plan.changes;
     for column in 1..part.columns + 1 {
         if part.class_at(classes, level, row, column) != subject {
             continue;
         }
         let x = part.value_at(values, level, row, column);
-        let (new, whose) = changes[column].turns(x, subject);
+        let (new, whose) = plan.changes[column].turns(x, subject);
         part.put(values, classes, level, row, column, new, whose);
     }
 }

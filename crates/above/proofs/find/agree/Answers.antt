@@ -10,13 +10,11 @@ pub returns-in-None-None : goal.returns-in-None-None
 returns-in-None-None c =
     agree-none _ _ _ _ _ _ _ c.requires.lent.1 refl refl (none-below _ _ (rw c.in-None-None.is-0 at c.find-here.ensures)) (none-below _ _ (rw c.in-None-None.is-1 at c.find-there.ensures))
 
-pub class_at-class-requires : goal.class_at-class-requires
-class_at-class-requires c = let g = some-below _ _ (rw c.in-Some-Some.is-1 at c.find-there.ensures) in
-    record { sized = c.requires.lent.0.classes; cell_inside = key-inside _ _ _ _ c.requires.in_level.1 (omega (arith, g)) }
+pub class_at-class-requires-clause-cell_inside : goal.class_at-class-requires-clause-cell_inside
+class_at-class-requires-clause-cell_inside c = let g = some-below _ _ (rw c.in-Some-Some.is-1 at c.find-there.ensures) in key-inside _ _ _ _ c.requires.in_level.1 (omega (arith, g))
 
-pub class_at-requires : goal.class_at-requires
-class_at-requires c = let f = some-below _ _ (rw c.in-Some-Some.is-0 at c.find-here.ensures) in
-    record { sized = c.requires.lent.0.classes; cell_inside = key-inside _ _ _ _ c.requires.in_level.0 (omega (arith, f)) }
+pub class_at-requires-clause-cell_inside : goal.class_at-requires-clause-cell_inside
+class_at-requires-clause-cell_inside c = let f = some-below _ _ (rw c.in-Some-Some.is-0 at c.find-here.ensures) in key-inside _ _ _ _ c.requires.in_level.0 (omega (arith, f))
 
 pub returns-in-Some-Some : goal.returns-in-Some-Some
 returns-in-Some-Some c = let f = some-below _ _ (rw c.in-Some-Some.is-0 at c.find-here.ensures) in

@@ -12,9 +12,6 @@ offset_bounds-description-part c = omega (arith, relation-few _ c.requires.sound
 pub returns-then-column-eq0 : goal.returns-then-column-eq0
 returns-then-column-eq0 c = lost-unreferring _ _ _ _ _ _ (foreign-is _ _ c.requires.relation) c.if-column-eq0.true
 
-pub bounds-plan-column : goal.bounds-plan-column
-bounds-plan-column c = foreign-few _ c.requires.sound-is _ c.requires.relation
-
 pub bounds : goal.bounds
 bounds c = foreign-few _ c.requires.sound-is _ c.requires.relation
 
@@ -24,8 +21,8 @@ returns-in_default c = lost-untaken _ _ _ _ _ _ (foreign-is _ _ c.requires.relat
 pub returns-then-key-eq0 : goal.returns-then-key-eq0
 returns-then-key-eq0 c = lost-null _ _ _ _ _ _ (foreign-is _ _ c.requires.relation) c.if-column-eq0.false c.in-Take.is c.if-key-eq0.true
 
-pub lay-target-requires : goal.lay-target-requires
-lay-target-requires c = record { sound_description = c.requires.sound-is; known_relation = referred _ c.requires.sound-is _ c.requires.relation c.if-column-eq0.false }
+pub lay-target-requires-clause-known_relation : goal.lay-target-requires-clause-known_relation
+lay-target-requires-clause-known_relation c = referred _ c.requires.sound-is _ c.requires.relation c.if-column-eq0.false
 
 pub agree-requires : goal.agree-requires
 agree-requires c = let t = referred _ c.requires.sound-is _ c.requires.relation c.if-column-eq0.false in

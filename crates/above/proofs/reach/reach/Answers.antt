@@ -19,10 +19,6 @@ pub invariant_of-reached : goal.invariant_of-reached
 invariant_of-reached c = let W = c.requires.carrying.1 in
     record { at = in-level _ W.sound-is _ W.relation _ c.requires.planned_in.1; own = in-level _ W.sound-is _ W.relation _ W.level }
 
-pub given-given-requires : goal.given-given-requires
-given-given-requires c = let W = c.requires.carrying.1 in
-    record { sound-is = W.sound-is; relation = W.relation; subject = W.level; level = c.requires.planned_in.1; values = c.requires.carrying.0.values; classes = c.requires.carrying.0.classes }
-
 pub referrers-requires : goal.referrers-requires
 referrers-requires c = let W = c.requires.carrying.1 in
     record { lent = (c.requires.carrying.0, W.sound-is); apart = apart W _ c.if-level-subject.false }

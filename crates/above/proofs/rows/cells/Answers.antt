@@ -11,11 +11,8 @@ use Rattle.above.proofs.rows.cells.Goals as goal
 pub loop-column-init : goal.loop-column-init
 loop-column-init c = (refl, refl, row-start _ _ _ _ _)
 
-pub class_at-requires : goal.class_at-requires
-class_at-requires c = let l = c.loop-column in record {
-  sized = l.invariant.1 ∙ c.requires.lent.classes;
-  cell_inside = row_inside _ _ _ _ _ c.requires.in_row l.auto.column (omega (arith, c.args.part.laid.columns, c.loop-column-test.true));
-}
+pub class_at-requires-clause-cell_inside : goal.class_at-requires-clause-cell_inside
+class_at-requires-clause-cell_inside c = let l = c.loop-column in row_inside _ _ _ _ _ c.requires.in_row l.auto.column (omega (arith, c.args.part.laid.columns, c.loop-column-test.true))
 
 -- a cell of another class stays
 pub loop-column-preserved-then-class_at-subject : goal.loop-column-preserved-then-class_at-subject
@@ -25,20 +22,11 @@ loop-column-preserved-then-class_at-subject c = let l = c.loop-column in (
   rw add-one (cells-turned _ _ _ _ _ _ _ _ _ l.auto.column l.invariant.2 (cell-kept _ _ _ _ _ _ _ _ _ (λ e. c.if-class_at-subject.true (c.class_at.ensures ∙ e)))),
 )
 
-pub value_at-x-requires : goal.value_at-x-requires
-value_at-x-requires c = let l = c.loop-column in record {
-  sized = l.invariant.0 ∙ c.requires.lent.values;
-  cell_inside = row_inside _ _ _ _ _ c.requires.in_row l.auto.column (omega (arith, c.args.part.laid.columns, c.loop-column-test.true));
-}
+pub value_at-x-requires-clause-cell_inside : goal.value_at-x-requires-clause-cell_inside
+value_at-x-requires-clause-cell_inside c = let l = c.loop-column in row_inside _ _ _ _ _ c.requires.in_row l.auto.column (omega (arith, c.args.part.laid.columns, c.loop-column-test.true))
 
-pub bounds-changes-column : goal.bounds-changes-column
-bounds-changes-column c = omega (arith, c.args.part.laid.columns, c.args.part.laid.narrow, c.loop-column-test.true)
-
-pub put-requires : goal.put-requires
-put-requires c = let l = c.loop-column in record {
-  lent = record { values = l.invariant.0 ∙ c.requires.lent.values; classes = l.invariant.1 ∙ c.requires.lent.classes };
-  cell_inside = row_inside _ _ _ _ _ c.requires.in_row l.auto.column (omega (arith, c.args.part.laid.columns, c.loop-column-test.true));
-}
+pub put-requires-clause-cell_inside : goal.put-requires-clause-cell_inside
+put-requires-clause-cell_inside c = let l = c.loop-column in row_inside _ _ _ _ _ c.requires.in_row l.auto.column (omega (arith, c.args.part.laid.columns, c.loop-column-test.true))
 
 -- a cell of the subject's class is stored as it becomes
 pub loop-column-preserved : goal.loop-column-preserved

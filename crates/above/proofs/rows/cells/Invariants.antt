@@ -13,5 +13,5 @@ invariant-loop-column l =
     × (length l.classes ≡ length l.initial.classes)
     × LevelBecomes
     l.part.description l.level
-    (with_row (pred l.column) l.part.relation l.row (λ k. turned l.changes l.subject k ((state_of l.part.description (holding l.initial.values l.initial.classes) l.level).rows l.part.relation l.row k)))
+    (with_row (pred l.column) l.part.relation l.row (λ k. turned l.plan.changes l.subject k ((state_of l.part.description (holding l.initial.values l.initial.classes) l.level).rows l.part.relation l.row k)))
     l.initial.values l.initial.classes l.values l.classes

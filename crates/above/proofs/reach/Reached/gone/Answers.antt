@@ -20,9 +20,8 @@ pub returns-then-not-plan-own : goal.returns-then-not-plan-own
 returns-then-not-plan-own c = let f = some-below _ _ c.in-Some.ensures in
     gone-unchosen _ _ _ _ _ _ _ _ c.if-not-plan.false f.0 (omega (arith, f)) c.if-not-plan-own.true
 
-pub class_at-requires : goal.class_at-requires
-class_at-requires c = let f = some-below _ _ c.in-Some.ensures in
-    record { sized = c.requires.lent.0.classes; cell_inside = key-inside _ _ _ _ c.args.self.own (omega (arith, f)) }
+pub class_at-requires-clause-cell_inside : goal.class_at-requires-clause-cell_inside
+class_at-requires-clause-cell_inside c = let f = some-below _ _ c.in-Some.ensures in key-inside _ _ _ _ c.args.self.own (omega (arith, f))
 
 pub returns-then-class_at-self : goal.returns-then-class_at-self
 returns-then-class_at-self c = let f = some-below _ _ c.in-Some.ensures in
@@ -41,9 +40,8 @@ returns-in_default-find c = let f = some-below _ _ c.in-Some.ensures in
     c.requires.lent.1
     (none-below _ _ c.in_default-find.ensures)
 
-pub class_at-requires-2 : goal.class_at-requires-2
-class_at-requires-2 c = let f = some-below _ _ c.in-Some-find.ensures in
-    record { sized = c.requires.lent.0.classes; cell_inside = key-inside _ _ _ _ c.args.self.at (omega (arith, f)) }
+pub class_at-requires-2-clause-cell_inside : goal.class_at-requires-2-clause-cell_inside
+class_at-requires-2-clause-cell_inside c = let f = some-below _ _ c.in-Some-find.ensures in key-inside _ _ _ _ c.args.self.at (omega (arith, f))
 
 pub returns : goal.returns
 returns c = let f = some-below _ _ c.in-Some.ensures in

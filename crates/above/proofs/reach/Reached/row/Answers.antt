@@ -11,14 +11,8 @@ use Rattle.above.proofs.reach.Reached.row.Goals as goal
 pub returns-then-not-touched : goal.returns-then-not-touched
 returns-then-not-touched c = row_kept _ _ _ _ _ _ _ _ _ _ c.touched.ensures c.if-not-touched.true
 
-pub class_at-class-requires : goal.class_at-class-requires
-class_at-class-requires c = record { sized = c.requires.lent.0.classes; cell_inside = key-inside _ _ _ _ c.args.self.at c.requires.lent.1 }
-
-pub clear-requires : goal.clear-requires
-clear-requires c = record { lent = c.requires.lent.0; in_row = record { level = c.args.self.at; row = c.requires.lent.1 } }
-
-pub cells-requires : goal.cells-requires
-cells-requires c = record { lent = c.requires.lent.0; in_row = record { level = c.args.self.at; row = c.requires.lent.1 } }
+pub class_at-class-requires-clause-cell_inside : goal.class_at-class-requires-clause-cell_inside
+class_at-class-requires-clause-cell_inside c = key-inside _ _ _ _ c.args.self.at c.requires.lent.1
 
 pub returns-then-class-self : goal.returns-then-class-self
 returns-then-class-self c =

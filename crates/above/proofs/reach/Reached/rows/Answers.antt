@@ -9,11 +9,8 @@ use Rattle.above.proofs.reach.Reached.rows.Goals as goal
 pub loop-row-init : goal.loop-row-init
 loop-row-init c = (refl, refl, rows_start _ _ _ _ _)
 
-pub row-requires : goal.row-requires
-row-requires c = let l = c.loop-row in record {
-  lent = (record { values = l.invariant.0 ∙ c.requires.lent.values; classes = l.invariant.1 ∙ c.requires.lent.classes }, omega (arith, c.args.self.part.laid.rows, c.loop-row-test.true));
-  one_row = rows-one _ _ _ _ _ _ _ _ _ _ _ _ c.requires.apart.0.other l.invariant.2 c.requires.apart.1;
-}
+pub row-requires-clause-one_row : goal.row-requires-clause-one_row
+row-requires-clause-one_row c = let l = c.loop-row in rows-one _ _ _ _ _ _ _ _ _ _ _ _ c.requires.apart.0.other l.invariant.2 c.requires.apart.1
 
 pub loop-row-preserved : goal.loop-row-preserved
 loop-row-preserved c = let l = c.loop-row in

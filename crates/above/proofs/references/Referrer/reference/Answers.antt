@@ -1,14 +1,10 @@
 use mathlib.Core.Path.{◌∙◌}
-use native.Mathlib.Omega.{arith}
 use Rattle.cells.proofs.Counts.{foreign-is}
 use Rattle.above.proofs.Unnamed.{inside-foreign, value_cell, reference-stays, reference-kept, reference-falls}
 use Rattle.above.proofs.references.Referrer.reference.Goals as goal
 
-pub bounds-part-part : goal.bounds-part-part
-bounds-part-part c = omega (arith, c.args.self.referring.few)
-
-pub value_at-key-requires : goal.value_at-key-requires
-value_at-key-requires c = record { sized = c.requires.lent.values; cell_inside = inside-foreign _ _ _ _ _ _ c.args.self.referring c.requires.in_row }
+pub value_at-key-requires-clause-cell_inside : goal.value_at-key-requires-clause-cell_inside
+value_at-key-requires-clause-cell_inside c = inside-foreign _ _ _ _ _ _ c.args.self.referring c.requires.in_row
 
 pub gone-requires : goal.gone-requires
 gone-requires c = rw c.args.self.same (record { lent = (c.requires.lent, c.args.self.referring.apart.few) })
@@ -21,17 +17,14 @@ returns-then-not-gone c = reference-stays
     (rw c.args.self.same at c.gone.ensures)
     c.if-not-gone.true
 
-pub kept-requires : goal.kept-requires
-kept-requires c = record {
-  lent = (c.requires.lent, record { level = c.args.self.referring.level; row = c.requires.in_row });
-  in_level = (c.args.self.referring.subject, inside-foreign _ _ _ _ _ _ c.args.self.referring c.requires.in_row);
-}
+pub kept-requires-clause-in_level : goal.kept-requires-clause-in_level
+kept-requires-clause-in_level c = (c.args.self.referring.subject, inside-foreign _ _ _ _ _ _ c.args.self.referring c.requires.in_row)
 
 pub returns-then-kept : goal.returns-then-kept
 returns-then-kept c = reference-kept _ _ _ _ _ _ _ _ _ (foreign-is _ _ c.args.self.referring.named) (c.value_at-key.ensures ∙ value_cell _ _ _ _ _ _ _) c.kept.ensures c.if-kept.true
 
-pub put_value-requires : goal.put_value-requires
-put_value-requires c = record { sized = c.requires.lent.values; cell_inside = inside-foreign _ _ _ _ _ _ c.args.self.referring c.requires.in_row }
+pub put_value-requires-clause-cell_inside : goal.put_value-requires-clause-cell_inside
+put_value-requires-clause-cell_inside c = inside-foreign _ _ _ _ _ _ c.args.self.referring c.requires.in_row
 
 pub returns : goal.returns
 returns c = reference-falls

@@ -9,12 +9,6 @@ use Rattle.above.proofs.references.Referrer.references.Goals as goal
 pub loop-row-init : goal.loop-row-init
 loop-row-init c = (refl, rows_start _ _ _ _ _)
 
-pub reference-requires : goal.reference-requires
-reference-requires c = let l = c.loop-row in record {
-  lent = record { values = l.invariant.0 ∙ c.requires.values; classes = c.requires.classes };
-  in_row = omega (arith, c.args.self.part.laid.rows, c.loop-row-test.true);
-}
-
 pub loop-row-preserved : goal.loop-row-preserved
 loop-row-preserved c = let l = c.loop-row in
     (c.reference.auto.values ∙ l.invariant.0, references-more _ _ _ _ _ _ _ _ _ c.args.self.referring.apart.other c.args.self.referring.lower l.invariant.1 c.reference.ensures)
