@@ -1,6 +1,5 @@
 -- What a statement is answered: the first of its tests that fails. What its subject sees of its own level, and the tables that an effect leaves.
 -- Assumes nothing.
-use Rattle.std.specs.Prelude.{Ok, Err}
 use Rattle.model.specs.Answers.{Answer}
 use Prim.Native.Nat.{ℕ, zero, suc}
 use mathlib.Core.Path.{◌≡◌, refl, sym, ap, ap₂, ◌∙◌, fun_ext}

@@ -2,13 +2,13 @@
 -- Assumes nothing.
 use Prim.Native.Nat.{ℕ, ◌<◌}
 use mathlib.Core.Path.{◌≡◌}
-use mathlib.Core.Bool.{Bool, true}
+use mathlib.Core.Bool.{true}
 use mathlib.Core.List.{List}
 use lib.ListN.{length}
 use Rattle.model.specs.declared.Description.{Description}
 use Rattle.model.specs.Description.{over, sound}
 use Rattle.cells.specs.Layout.{InLevel, Lent}
-use Rattle.cells.proofs.Counts.{sound-says, relation-few, in-level}
+use Rattle.cells.proofs.Counts.{in-level}
 use Rattle.theory.proofs.Described.{sound-laws}
 use Rattle.change.specs.Facts.{Standing, Naming}
 

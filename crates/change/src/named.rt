@@ -1,4 +1,4 @@
-// The rows that references name.
+// The rows that references name. Key 0 is null, and foreign column 0 says that there is no reference: both come so over the C interface.
 ghost use Rattle.std.specs.Prelude.{◌≡◌, true, ◌≢◌, List, ℕ, length};
 ghost use Rattle.model.specs.Description.{is_column, foreign_of};
 ghost use Rattle.model.specs.Tables.{rows_of};

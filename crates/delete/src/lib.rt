@@ -15,85 +15,95 @@ use cells::layout::{Part, lay};
 use conditions::{chosen, count};
 use model::{Answer, Fault};
 
-// Whether the row with a key is chosen.
-fn names(values: &[u32], part: Part, chosen: [bool; 64], level: usize, key: u32) -> bool
-    requires sized { Sized part.description (length values.now) }
-    requires in_level { InLevel part.description part.relation level }
-    ensures { result ≡ names_chosen part.description values.now chosen part.relation level key }
-{
-    if key == 0 {
-        return false;
-    }
-    match part.find(values, level, key) {
-        Some(row) => chosen[row],
-        None => false,
-    }
+// The rows of a table at the subject's level, and which of them are chosen.
+#[derive(Clone, Copy)]
+struct Rows {
+    table: Table,
+    level: usize,
+    chosen: [bool; 64],
+    ghost in_level: { InLevel table.part.description table.part.relation level },
 }
 
-// Whether a row of a relation at the subject's level refers to a chosen row.
-fn refers(values: &[u32], part: Part, chosen: [bool; 64], level: usize, referrer: usize) -> bool
-    requires in_level { InLevel part.description part.relation level × (0 < part.relation) }
-    requires naming { Naming part.description referrer level (length values.now) }
-    ensures { result ≡ refers_chosen part.description values.now chosen part.relation level referrer }
-{
-    let description = part.description;
-    if description.refers[referrer] as usize != part.relation {
-        return false;
-    }
-    let place = lay(description, referrer);
-    let column = description.foreign[referrer] as usize;
-    for row in 0..place.rows {
-        let key = place.value_at(values, level, row, column);
-        if names(values, part, chosen, level, key) {
-            return true;
+impl Rows {
+    // Whether the row with a key is chosen. Key 0 is null over the C interface, and names no row.
+    fn names(&self, values: &[u32], key: u32) -> bool
+        requires { Sized self.now.table.part.description (length values.now) }
+        ensures { result ≡ names_chosen self.now.table.part.description values.now self.now.chosen self.now.table.part.relation self.now.level key }
+    {
+        if key == 0 {
+            return false;
+        }
+        match self.table.part.find(values, self.level, key) {
+            Some(row) => self.chosen[row],
+            None => false,
         }
     }
-    false
-}
 
-// Whether a row at the subject's level refers to a row to be emptied.
-fn referred(values: &[u32], part: Part, chosen: [bool; 64], level: usize) -> bool
-    requires { Naming part.description part.relation level (length values.now) }
-    ensures { result ≡ referred_chosen part.description values.now chosen part.relation level }
-{
-    for referrer in 1..part.description.relations as usize + 1 {
-        if refers(values, part, chosen, level, referrer) {
-            return true;
+    // Whether a row of a relation at the subject's level refers to a chosen row.
+    fn refers(&self, values: &[u32], referrer: usize) -> bool
+        requires naming { Naming self.now.table.part.description referrer self.now.level (length values.now) }
+        requires relation_nonzero { 0 < self.now.table.part.relation }
+        ensures { result ≡ refers_chosen self.now.table.part.description values.now self.now.chosen self.now.table.part.relation self.now.level referrer }
+    {
+        let description = self.table.part.description;
+        if description.refers[referrer] as usize != self.table.part.relation {
+            return false;
+        }
+        let place = lay(description, referrer);
+        let column = description.foreign[referrer] as usize;
+        for row in 0..place.rows {
+            let key = place.value_at(values, self.level, row, column);
+            if self.names(values, key) {
+                return true;
+            }
+        }
+        false
+    }
+
+    // Whether a row at the subject's level refers to a row to be emptied.
+    fn referred(&self, values: &[u32]) -> bool
+        requires { Naming self.now.table.part.description self.now.table.part.relation self.now.level (length values.now) }
+        ensures { result ≡ referred_chosen self.now.table.part.description values.now self.now.chosen self.now.table.part.relation self.now.level }
+    {
+        for referrer in 1..self.table.part.description.relations as usize + 1 {
+            if self.refers(values, referrer) {
+                return true;
+            }
+        }
+        false
+    }
+
+    // Each row that is chosen is emptied. UPDATE's `Set::rows` is alike but for the call: a closure over both buffers would be no plainer.
+    fn clear(&self, values: &mut [u32], classes: &mut [u8])
+        requires { Lent self.now.table.part.description (length values.old) (length classes.old) }
+        ensures { RowsDone self.now.table.part.description self.now.table.part.relation self.now.level self.now.chosen (λ R. norow) values.old classes.old values.new classes.new }
+    {
+        let part = self.table.part;
+        for row in 0..part.rows {
+            if self.chosen[row] {
+                part.clear(values, classes, self.level, row);
+            }
         }
     }
-    false
-}
 
-// Each row at the subject's level that is chosen is emptied.
-fn rows(values: &mut [u32], classes: &mut [u8], part: Part, chosen: [bool; 64], level: usize)
-    requires lent { Lent part.description (length values.old) (length classes.old) }
-    requires in_level { InLevel part.description part.relation level }
-    ensures { RowsDone part.description part.relation level chosen (λ R. norow) values.old classes.old values.new classes.new }
-{
-    for row in 0..part.rows {
-        if chosen[row] {
-            part.clear(values, classes, level, row);
-        }
+    // The chosen rows are emptied: first what is above, then those at the subject's level.
+    fn write(&self, values: &mut [u32], classes: &mut [u8])
+        requires standing { Standing self.now.table.part.description self.now.table.part.relation self.now.level values.old classes.old }
+        requires only_used { OnlyUsed self.now.table.part.description self.now.table.part.relation self.now.level values.old classes.old self.now.chosen }
+        ensures { Leaves self.now.table.part.description self.now.level (empty_chosen self.now.table.part.description self.now.level self.now.table.part.relation self.now.chosen) values.old classes.old values.new classes.new }
+    {
+        let null = Change::Only {
+            value: 0,
+            class: 255,
+        };
+        let plan = Plan {
+            chosen: self.chosen,
+            gone: true,
+            changes: [null; 9],
+        };
+        above(values, classes, self.table, plan, self.level);
+        self.clear(values, classes);
     }
-}
-
-// The chosen rows are emptied: first what is above, then those at the subject's level.
-fn write(values: &mut [u32], classes: &mut [u8], table: Table, chosen: [bool; 64], level: usize)
-    requires standing { Standing table.part.description table.part.relation level values.old classes.old }
-    requires only_used { OnlyUsed table.part.description table.part.relation level values.old classes.old chosen }
-    ensures { Leaves table.part.description level (empty_chosen table.part.description level table.part.relation chosen) values.old classes.old values.new classes.new }
-{
-    let null = Change::Only {
-        value: 0,
-        class: 255,
-    };
-    let plan = Plan {
-        chosen,
-        gone: true,
-        changes: [null; 9],
-    };
-    above(values, classes, table, plan, level);
-    rows(values, classes, table.part, chosen, level);
 }
 
 // The test; then the rows above, and the rows at the subject's level.
@@ -108,11 +118,15 @@ pub fn delete(
     requires formed_conditions { conditions_formed table.part.description table.part.relation conditions.now ≡ true }
     ensures { Deletes table.part.description level table.part.relation conditions.now values.old classes.old values.new classes.new result }
 {
-    let part = table.part;
-    let chosen = chosen(values, classes, conditions, part, table.order, level);
-    if referred(values, part, chosen, level) {
+    let chosen = chosen(values, classes, conditions, table.part, table.order, level);
+    let rows = Rows {
+        table,
+        level,
+        chosen,
+    };
+    if rows.referred(values) {
         return Err(Fault::Referred);
     }
-    write(values, classes, table, chosen, level);
-    Ok(count(chosen, part.rows))
+    rows.write(values, classes);
+    Ok(count(chosen, table.part.rows))
 }

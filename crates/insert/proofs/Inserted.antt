@@ -4,10 +4,10 @@ use Rattle.std.specs.Prelude.{if◌then◌else◌}
 use Prim.Native.Nat.{ℕ, ◌%◌, ◌≤◌, ◌<◌}
 use mathlib.Core.Path.{◌≡◌, refl, sym, ap, ap₂, ◌∙◌}
 use mathlib.Core.Bool.{Bool, true, false, not, ◌&&◌}
-use mathlib.Core.List.{List, [], ◌∷◌}
+use mathlib.Core.List.{List, []}
 use mathlib.Core.Logic.{◌≢◌}
 use mathlib.Core.Option.{Option, none, some}
-use lib.Dec.{eqb, ltb}
+use lib.Dec.{eqb}
 use lib.ListN.{length}
 use borrow.Author.Tests.{eq-eqb, ne_eqb, lt-ltb, le-ltb, eqb-true}
 use Rattle.bounded.specs.Bounded.{some_below}
@@ -23,7 +23,6 @@ use Rattle.model.specs.Tables.{Row, State, rows_of, cell, nocell, own_null, used
 use Rattle.model.specs.Buffers.{Buffers, holding, inside, state_of}
 use Rattle.model.specs.Listed.{whole, each, listed, columns_once}
 use Rattle.model.specs.Effect.{Rows, Effect, lowest_empty, has_room}
-use Rattle.model.specs.Numbers.{fault_number}
 use Rattle.model.specs.Insert.{key_listed, insert_formed, insert_tests, new_row, inserted}
 use Rattle.model.specs.Run.{first_fault, left}
 use Rattle.model.proofs.Sound.{between-r, column-r}
@@ -33,7 +32,6 @@ use Rattle.cells.specs.Changed.{key_place, listed_row, change_level, with_row}
 use Rattle.cells.proofs.Cells.{state-path}
 use Rattle.asked.specs.declared.pairs.Rule.TheVariants as Rules
 use Rattle.asked.specs.Facts.{rule_of}
-use Rattle.theory.proofs.Tests.{pass}
 use Rattle.theory.proofs.Listed.{each-listed}
 use Rattle.theory.proofs.Seen.{seen_at, seen-own}
 use Rattle.change.specs.Facts.{Standing, Filled, Inserts, refuses, does, sight, value_listed}

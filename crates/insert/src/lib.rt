@@ -19,7 +19,7 @@ pub fn formed(list: &[u32], columns: Columns) -> bool
     list.len() % 2 == 0 && columns.each(list, Rule::Column) && once(list) && value(list, 1) != 0
 }
 
-// The value that a listed column gets, and 0 for the others.
+// The value that a listed column gets, and 0, which is null, for the others.
 fn value(list: &[u32], column: usize) -> u32
     ensures { result ≡ value_listed list.now column }
 {
@@ -39,7 +39,7 @@ fn class(list: &[u32], columns: Columns, column: usize, level: u8) -> u8
     }
 }
 
-// The values of the new row, by column.
+// The values of the new row, by column. Its classes stand beside them, as in the two buffers that come over the C interface.
 fn news(list: &[u32], columns: usize) -> [u32; 9]
     requires { columns ≤ 8 }
     ensures { Filled columns (value_listed list.now) result }

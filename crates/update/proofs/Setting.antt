@@ -1,7 +1,7 @@
 -- What is listed, pair after pair: by column, and in a row.
 -- Assumes nothing.
 use Rattle.std.specs.Prelude.{if◌then◌else◌}
-use Prim.Native.Nat.{ℕ, ◌+◌, ◌%◌, ◌≤◌, ◌<◌}
+use Prim.Native.Nat.{ℕ, ◌+◌, ◌%◌, ◌<◌}
 use mathlib.Core.Path.{◌≡◌, refl, sym, ap, ◌∙◌, fun_ext}
 use mathlib.Core.Bool.{Bool, true, false, not, ◌&&◌}
 use mathlib.Core.Logic.{◌≢◌}
@@ -21,7 +21,7 @@ use Rattle.bounded.proofs.Cases.{cases}
 use Rattle.bounded.proofs.First.{first-le, first_more, first-here, First, found, absent, first-cases}
 use Rattle.bounded.proofs.Reflection.{is_true}
 use Rattle.model.specs.declared.Description.{Description}
-use Rattle.model.specs.Description.{between, is_column}
+use Rattle.model.specs.Description.{between}
 use Rattle.model.specs.Tables.{Cell, Row, cell, Level, State}
 use Rattle.model.specs.Listed.{whole, pairs, column_at, second_at, each, listed, lists, columns_once}
 use Rattle.model.specs.Update.{update_formed, set_in}

@@ -9,8 +9,8 @@ use mathlib.Core.Logic.{◌≢◌}
 use mathlib.Core.Option.{Option, none, some}
 use native.Mathlib.Omega.{arith}
 use lib.Dec.{eqb, ltb}
-use lib.ListN.{length, get_or, replicate, get_or-replicate, get_or-eq_default}
-use borrow.Author.Tests.{eqb-true, ltb-true, ltb-false}
+use lib.ListN.{length}
+use borrow.Author.Tests.{eqb-true, ltb-true}
 use Rattle.bounded.specs.Bounded.{first_below, all_below}
 use Rattle.bounded.proofs.All.{all-at}
 use Rattle.bounded.proofs.Any.{any-first}
@@ -18,11 +18,11 @@ use Rattle.bounded.proofs.First.{first_holds}
 use Rattle.bounded.proofs.Cases.{cases}
 use Rattle.bounded.proofs.Reflection.{is_false, of-true, of-false, bool-r, not-r, and_r, eqb-r}
 use Rattle.model.specs.declared.Description.{Description}
-use Rattle.std.specs.Prelude.{Ok, Err}
+use Rattle.std.specs.Prelude.{Ok}
 use Rattle.model.specs.Description.{between, distinct_below, over, is_column, row_count, column_count}
 use Rattle.model.specs.Tables.{Row, State, rows_of}
 use Rattle.model.specs.Buffers.{holding, state_of}
-use Rattle.model.specs.Listed.{whole, pairs, column_at, second_at, each, listed, lists, columns_once}
+use Rattle.model.specs.Listed.{whole, pairs, column_at, each, listed, lists, columns_once}
 use Rattle.model.specs.Conditions.{met}
 use Rattle.model.specs.Effect.{Rows, Effect, Above, keep}
 use Rattle.model.specs.Effect as Effects
@@ -34,12 +34,12 @@ use Rattle.cells.specs.Changed.{change_level}
 use Rattle.conditions.specs.Facts.{ChosenAt}
 use Rattle.above.specs.declared.plan.Plan.{Plan}
 use Rattle.above.specs.declared.plan.Change.TheVariants as Changes
-use Rattle.above.specs.Facts.{planned, effect_of, change_of, above_of, carried, with_rows, Planned}
+use Rattle.above.specs.Facts.{effect_of, change_of, above_of, carried, with_rows, Planned}
 use Rattle.change.specs.Facts.{Standing, Updates, does, sight, met_rows}
 use Rattle.chosen.specs.Choosing.{Listing, ByColumn, Chosen, change_listed, row_chosen, set_chosen}
 use Rattle.change.proofs.Answers.{listed-seen}
 use Rattle.chosen.proofs.Carrying.{left-chosen, any-counted, own-seen, own-met, above-met}
-use Rattle.update.proofs.Setting.{listed-there, listed-nowhere}
+use Rattle.update.proofs.Setting.{listed-nowhere}
 
 -- ---- what is listed for a column
 

@@ -1,25 +1,23 @@
 // UPDATE.
 #![tactic(auto)]
 
-ghost use Rattle.std.specs.Prelude.{◌≡◌, true, false, ◌||◌, List, eqb, length, ℕ, ◌<◌};
-ghost use Rattle.model.specs.Description.{is_column, column_count};
+ghost use Rattle.std.specs.Prelude.{◌≡◌, true, ◌||◌, List, eqb, length, ℕ, ◌<◌};
+ghost use Rattle.model.specs.Description.{row_count};
 ghost use Rattle.model.specs.Tables.{rows_of};
 ghost use Rattle.model.specs.Buffers.{holding, state_of};
-ghost use Rattle.model.specs.Listed.{each as each_of, lists};
 ghost use Rattle.model.specs.Conditions.{conditions_formed};
 ghost use Rattle.model.specs.Insert.{listed_names};
 ghost use Rattle.model.specs.Update.{update_formed, update_tests, set_in};
-ghost use Rattle.cells.specs.Layout.{Lent, InLevel, InRow};
+ghost use Rattle.cells.specs.Layout.{Lent, InLevel};
 ghost use Rattle.change.specs.Facts.{Standing, Naming, met_rows, Updates, sight};
 ghost use Rattle.change.specs.Tests.{ended};
-ghost use Rattle.chosen.specs.Choosing.{Listing, ByColumn, OnlyUsed, change_listed, set_chosen, RowDone, RowsDone, Leaves};
+ghost use Rattle.chosen.specs.Choosing.{ByColumn, OnlyUsed, change_listed, set_chosen, RowDone, RowsDone, Leaves};
 
 use above::above;
 use above::plan::{Change, Plan};
 use asked::columns::Columns;
 use asked::pairs::{Rule, find, once};
 use asked::table::Table;
-use cells::layout::Part;
 use change::named::listed;
 use conditions::{chosen, count};
 use model::{Answer, Fault};
@@ -35,111 +33,114 @@ pub fn formed(list: &[u32], columns: Columns) -> bool
         && 0 < list.len()
 }
 
-// What becomes of the subject's cells above, by column: those that are listed become the subject's with that value.
-fn changes(list: &[u32], level: u8) -> [Change; 9]
-    requires { Listing 8 list.now }
-    ensures { ByColumn (change_listed level list.now) result }
-{
-    let mut changes = [Change::Keep; 9];
-    for i in 0..list.len() / 2 {
-        let column = list[2 * i] as usize;
-        changes[column] = Change::Take {
-            value: list[2 * i + 1],
-            class: level,
-        };
-    }
-    changes
-}
-
-// A row that meets the conditions gets (value, c) in each SET column.
-fn set(values: &mut [u32], classes: &mut [u8], list: &[u32], part: Part, level: usize, row: usize)
-    requires lent { Lent part.description (length values.old) (length classes.old) × InRow part.description part.relation level row }
-    requires listing { Listing (column_count part.description part.relation) list.now × (level < 16) }
-    ensures { RowDone part.description part.relation level row (set_in level list.now) values.old classes.old values.new classes.new }
-{
-    for i in 0..list.len() / 2 {
-        let column = list[2 * i] as usize;
-        let value = list[2 * i + 1];
-        part.put(values, classes, level, row, column, value, level as u8);
-    }
-}
-
-// Each row at the subject's level that is chosen is set.
-fn rows(
-    values: &mut [u32],
-    classes: &mut [u8],
-    list: &[u32],
-    part: Part,
-    chosen: [bool; 64],
+// What SET lists, for rows of a table at the subject's level. The pairs lie flat, as they come over the C interface, and go by number, as in the
+// model's `column_at` and `second_at`: over `chunks_exact` the goals speak of the iterator, and the loops are no plainer.
+#[derive(Clone, Copy)]
+struct Set<'a> {
+    list: &'a [u32],
+    table: Table,
     level: usize,
-)
-    requires lent { Lent part.description (length values.old) (length classes.old) × InLevel part.description part.relation level }
-    requires listing { Listing (column_count part.description part.relation) list.now × (level < 16) }
-    ensures { RowsDone part.description part.relation level chosen (set_in level list.now) values.old classes.old values.new classes.new }
-{
-    for row in 0..part.rows {
-        if chosen[row] {
-            set(values, classes, list, part, level, row);
+    ghost in_level: { InLevel table.part.description table.part.relation level },
+    ghost formed: { update_formed table.part.description table.part.relation list.now ≡ true },
+}
+
+impl Set<'_> {
+    // What becomes of the subject's cells above, by column: those that are listed become the subject's with that value.
+    fn changes(&self) -> [Change; 9]
+        ensures { ByColumn (change_listed self.now.level self.now.list.now) result }
+    {
+        let mut changes = [Change::Keep; 9];
+        for i in 0..self.list.len() / 2 {
+            let column = self.list[2 * i] as usize;
+            changes[column] = Change::Take {
+                value: self.list[2 * i + 1],
+                class: self.level as u8,
+            };
+        }
+        changes
+    }
+
+    // A row gets (value, c) in each SET column.
+    fn row(&self, values: &mut [u32], classes: &mut [u8], row: usize)
+        requires lent { Lent self.now.table.part.description (length values.old) (length classes.old) }
+        requires row_exists { row < row_count self.now.table.part.description self.now.table.part.relation }
+        ensures { RowDone self.now.table.part.description self.now.table.part.relation self.now.level row (set_in self.now.level self.now.list.now) values.old classes.old values.new classes.new }
+    {
+        let part = self.table.part;
+        let level = self.level;
+        for i in 0..self.list.len() / 2 {
+            let column = self.list[2 * i] as usize;
+            let value = self.list[2 * i + 1];
+            part.put(values, classes, level, row, column, value, level as u8);
         }
     }
-}
 
-// What is listed is done to the chosen rows: first above, then at the subject's level.
-fn write(
-    values: &mut [u32],
-    classes: &mut [u8],
-    list: &[u32],
-    table: Table,
-    chosen: [bool; 64],
-    level: usize,
-)
-    requires standing { Standing table.part.description table.part.relation level values.old classes.old }
-    requires only_used { OnlyUsed table.part.description table.part.relation level values.old classes.old chosen }
-    requires listing { Listing (column_count table.part.description table.part.relation) list.now × (lists list.now 1 ≡ false) }
-    ensures { Leaves table.part.description level (set_chosen table.part.description level table.part.relation list.now chosen)
-        values.old classes.old values.new classes.new }
-{
-    let changes = changes(list, level as u8);
-    let plan = Plan {
-        chosen,
-        gone: false,
-        changes,
-    };
-    above(values, classes, table, plan, level);
-    rows(values, classes, list, table.part, chosen, level);
-}
-
-// No row is met, or a reference that is listed is null or has its row.
-fn reference(values: &[u32], list: &[u32], part: Part, level: usize, count: u32) -> bool
-    requires naming { Naming part.description part.relation level (length values.now) }
-    requires columns_listed { each_of (λ k v. is_column part.description part.relation k) list.now ≡ true }
-    ensures { (classes : List ℕ) → result ≡ (eqb count 0 || listed_names part.description level part.relation list.now (rows_of (state_of part.description (holding values.now classes)))) }
-{
-    count == 0 || listed(values, list, part.description, part.relation, level)
-}
-
-// The tests, in their order, where `count` rows meet the conditions.
-fn check(
-    values: &[u32],
-    classes: &[u8],
-    list: &[u32],
-    conditions: &[u32],
-    table: Table,
-    level: usize,
-    count: u32,
-) -> Result<(), Fault>
-    requires standing { Standing table.part.description table.part.relation level values.now classes.now }
-    requires formed_list { update_formed table.part.description table.part.relation list.now ≡ true }
-    requires counted { count ≡ met_rows table.part.description level table.part.relation conditions.now (sight table.part.description level values.now classes.now) }
-    ensures { result ≡ ended (update_tests table.part.description level table.part.relation list.now conditions.now (sight table.part.description level values.now classes.now)) }
-{
-    if !table.columns().each(list, Rule::Takes { level }) {
-        return Err(Fault::Range);
+    // Each row that is chosen is set. DELETE's `Rows::clear` is alike but for the call.
+    fn rows(&self, values: &mut [u32], classes: &mut [u8], chosen: [bool; 64])
+        requires { Lent self.now.table.part.description (length values.old) (length classes.old) }
+        ensures { RowsDone self.now.table.part.description self.now.table.part.relation self.now.level chosen (set_in self.now.level self.now.list.now) values.old classes.old values.new classes.new }
+    {
+        for row in 0..self.table.part.rows {
+            if chosen[row] {
+                self.row(values, classes, row);
+            }
+        }
     }
-    if !reference(values, list, table.part, level, count) {
-        return Err(Fault::Reference);
+
+    // What is listed is done to the chosen rows: first above, then at the subject's level.
+    fn write(&self, values: &mut [u32], classes: &mut [u8], chosen: [bool; 64])
+        requires standing { Standing self.now.table.part.description self.now.table.part.relation self.now.level values.old classes.old }
+        requires only_used { OnlyUsed self.now.table.part.description self.now.table.part.relation self.now.level values.old classes.old chosen }
+        ensures { Leaves self.now.table.part.description self.now.level (set_chosen self.now.table.part.description self.now.level self.now.table.part.relation self.now.list.now chosen)
+            values.old classes.old values.new classes.new }
+    {
+        let changes = self.changes();
+        let plan = Plan {
+            chosen,
+            gone: false,
+            changes,
+        };
+        above(values, classes, self.table, plan, self.level);
+        self.rows(values, classes, chosen);
     }
-    Ok(())
+
+    // No row is met, or a reference that is listed is null or has its row.
+    fn reference(&self, values: &[u32], count: u32) -> bool
+        requires { Naming self.now.table.part.description self.now.table.part.relation self.now.level (length values.now) }
+        ensures { (classes : List ℕ) → result ≡ (eqb count 0 || listed_names self.now.table.part.description self.now.level self.now.table.part.relation self.now.list.now (rows_of (state_of self.now.table.part.description (holding values.now classes)))) }
+    {
+        let part = self.table.part;
+        count == 0
+            || listed(
+                values,
+                self.list,
+                part.description,
+                part.relation,
+                self.level,
+            )
+    }
+
+    // The tests, in their order, where `count` rows meet the conditions.
+    fn check(
+        &self,
+        values: &[u32],
+        classes: &[u8],
+        conditions: &[u32],
+        count: u32,
+    ) -> Result<(), Fault>
+        requires standing { Standing self.now.table.part.description self.now.table.part.relation self.now.level values.now classes.now }
+        requires counted { count ≡ met_rows self.now.table.part.description self.now.level self.now.table.part.relation conditions.now (sight self.now.table.part.description self.now.level values.now classes.now) }
+        ensures { result ≡ ended (update_tests self.now.table.part.description self.now.level self.now.table.part.relation self.now.list.now conditions.now (sight self.now.table.part.description self.now.level values.now classes.now)) }
+    {
+        let level = self.level;
+        if !self.table.columns().each(self.list, Rule::Takes { level }) {
+            return Err(Fault::Range);
+        }
+        if !self.reference(values, count) {
+            return Err(Fault::Reference);
+        }
+        Ok(())
+    }
 }
 
 // The tests; then the rows above, and the rows at the subject's level.
@@ -155,10 +156,10 @@ pub fn update(
     requires formed_list { (update_formed table.part.description table.part.relation list.now ≡ true) × (conditions_formed table.part.description table.part.relation conditions.now ≡ true) }
     ensures { Updates table.part.description level table.part.relation list.now conditions.now values.old classes.old values.new classes.new result }
 {
-    let part = table.part;
-    let chosen = chosen(values, classes, conditions, part, table.order, level);
-    let count = count(chosen, part.rows);
-    check(values, classes, list, conditions, table, level, count)?;
-    write(values, classes, list, table, chosen, level);
+    let set = Set { list, table, level };
+    let chosen = chosen(values, classes, conditions, table.part, table.order, level);
+    let count = count(chosen, table.part.rows);
+    set.check(values, classes, conditions, count)?;
+    set.write(values, classes, chosen);
     Ok(count)
 }

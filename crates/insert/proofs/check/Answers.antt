@@ -2,7 +2,7 @@ use mathlib.Core.Path.{sym, ap, ◌∙◌}
 use mathlib.Core.Bool.{not}
 use Rattle.model.specs.Insert.{insert_tests}
 use Rattle.change.proofs.Ended.{fails, passes, no_more, range-test, names-test}
-use Rattle.change.proofs.Known.{own-level, own-over, naming}
+use Rattle.change.proofs.Known.{own-level, own-over}
 use Rattle.insert.proofs.Inserted.{formed-columns, taken-test}
 use Rattle.insert.proofs.check.Goals as goal
 
@@ -11,8 +11,8 @@ unfolding insert_tests
 returns-then-not-each c = let e = rw (c.columns.ensures.described, c.columns.ensures.of_relation) at c.each.ensures in
     fails _ _ (range-test _ _ _ _ e ∙ c.if-not-each.true)
 
-pub find-requires : goal.find-requires
-find-requires c = let s = c.requires.standing in record { sized = s.long; in_level = own-level s }
+pub find-requires-clause-in_level : goal.find-requires-clause-in_level
+find-requires-clause-in_level c = own-level c.requires.standing
 
 pub returns-then-is_some : goal.returns-then-is_some
 unfolding insert_tests
@@ -20,8 +20,8 @@ returns-then-is_some c = let e = rw (c.columns.ensures.described, c.columns.ensu
     passes _ _ (range-test _ _ _ _ e ∙ c.if-not-each.false)
     (fails _ _ (taken-test c.requires.standing _ c.requires.formed_list c.value-key.ensures c.find.ensures ∙ ap not (sym c.is_some.ensures ∙ c.if-is_some.true)))
 
-pub listed-requires : goal.listed-requires
-listed-requires c = record { naming = naming c.requires.standing; columns_listed = formed-columns _ _ _ c.requires.formed_list }
+pub listed-requires-clause-columns_listed : goal.listed-requires-clause-columns_listed
+listed-requires-clause-columns_listed c = formed-columns _ _ _ c.requires.formed_list
 
 pub returns-then-not-listed : goal.returns-then-not-listed
 unfolding insert_tests

@@ -8,8 +8,8 @@ pub returns-in_err-check : goal.returns-in_err-check
 returns-in_err-check c = let p = err_from_is_err_and c.from_residual.result c.from_residual.ensures.1 in
     rw (p.1, p.2) (unbegun c.requires.standing _ c.requires.formed_list c.in_err-check.ensures)
 
-pub lowest-requires : goal.lowest-requires
-lowest-requires c = let s = c.requires.standing in record { lent = lent s; in_level = own-level s }
+pub lowest-requires-clause-in_level : goal.lowest-requires-clause-in_level
+lowest-requires-clause-in_level c = own-level c.requires.standing
 
 pub returns-in_err-row : goal.returns-in_err-row
 returns-in_err-row c = let s = c.requires.standing in

@@ -28,9 +28,8 @@ offset_bounds-list-at c = omega (arith, pair-there _ _ c.in-Some.ensures)
 pub bounds-list-at : goal.bounds-list-at
 bounds-list-at c = omega (arith, pair-there _ _ c.in-Some.ensures)
 
-pub names-requires : goal.names-requires
-names-requires c = let k = c.requires.naming in
-    record { naming = k; relation_nonzero = λ z. c.if-column-eq0.false (foreign-is _ _ k.relation ∙ z) }
+pub names-requires-clause-relation_nonzero : goal.names-requires-clause-relation_nonzero
+names-requires-clause-relation_nonzero c = λ z. c.if-column-eq0.false (foreign-is _ _ c.requires.naming.relation ∙ z)
 
 pub returns-in-Some : goal.returns-in-Some
 returns-in-Some c = let k = c.requires.naming in

@@ -13,14 +13,13 @@ offset_bounds-description-relation c = omega (arith, relation-few _ c.requires.n
 pub bounds-description-relation : goal.bounds-description-relation
 bounds-description-relation c = omega (arith, relation-few _ c.requires.naming.sound-is _ c.requires.naming.relation)
 
-pub lay-requires : goal.lay-requires
-lay-requires c = record { sound_description = c.requires.naming.sound-is; known_relation = target-relation _ c.requires.naming.sound-is _ c.requires.naming.relation c.requires.relation_nonzero }
+pub lay-requires-clause-known_relation : goal.lay-requires-clause-known_relation
+lay-requires-clause-known_relation c = let k = c.requires.naming in
+    target-relation _ k.sound-is _ k.relation c.requires.relation_nonzero
 
-pub find-requires : goal.find-requires
-find-requires c = let k = c.requires.naming in record {
-  sized = rw c.lay.ensures.described k.long;
-  in_level = rw (c.lay.ensures.described, c.lay.ensures.of_relation) (in-level _ k.sound-is _ (target-relation _ k.sound-is _ k.relation c.requires.relation_nonzero) _ k.level);
-}
+pub find-requires-clause-in_level : goal.find-requires-clause-in_level
+find-requires-clause-in_level c = let k = c.requires.naming in
+    rw (c.lay.ensures.described, c.lay.ensures.of_relation) (in-level _ k.sound-is _ (target-relation _ k.sound-is _ k.relation c.requires.relation_nonzero) _ k.level)
 
 pub returns : goal.returns
 returns c = let k = c.requires.naming in

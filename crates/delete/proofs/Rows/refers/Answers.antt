@@ -3,7 +3,7 @@ use native.Mathlib.Omega.{arith}
 use Rattle.bounded.proofs.Any.{any-start, any-more}
 use Rattle.cells.proofs.Counts.{relation-few, foreign-is, refers-is}
 use Rattle.delete.proofs.Emptying.{refers-other, row-refers, refers-here, refers-none, reference-inside}
-use Rattle.delete.proofs.refers.Goals as goal
+use Rattle.delete.proofs.Rows.refers.Goals as goal
 
 -- The invariant: no row that was passed refers to a chosen one.
 
@@ -16,15 +16,6 @@ bounds-description-referrer c = omega (arith, relation-few _ c.requires.naming.s
 pub returns-then-description-referrer : goal.returns-then-description-referrer
 returns-then-description-referrer c = refers-other _ _ _ _ _ _ (λ e. c.if-description-referrer.true (refers-is _ _ c.requires.naming.relation ∙ e))
 
-pub lay-place-requires : goal.lay-place-requires
-lay-place-requires c = record { sound_description = c.requires.naming.sound-is; known_relation = c.requires.naming.relation }
-
-pub offset_bounds-description-referrer-2 : goal.offset_bounds-description-referrer-2
-offset_bounds-description-referrer-2 c = omega (arith, relation-few _ c.requires.naming.sound-is _ c.requires.naming.relation)
-
-pub bounds-description-referrer-2 : goal.bounds-description-referrer-2
-bounds-description-referrer-2 c = omega (arith, relation-few _ c.requires.naming.sound-is _ c.requires.naming.relation)
-
 pub loop-row-init : goal.loop-row-init
 loop-row-init c = any-start _
 
@@ -34,11 +25,8 @@ value_at-key-requires c = let k = c.requires.naming in
     let n = rw (p.described, p.of_relation) at c.lay-place.result.laid.rows in record {
       sized = rw p.described k.long;
       cell_inside = rw (p.described, p.of_relation, foreign-is _ _ k.relation)
-          (reference-inside _ _ _ _ _ k c.requires.in_level.1 (sym (refers-is _ _ k.relation) ∙ c.if-description-referrer.false) c.loop-row.row (omega (arith, n, c.loop-row-test.true)));
+          (reference-inside _ _ _ _ _ k c.requires.relation_nonzero (sym (refers-is _ _ k.relation) ∙ c.if-description-referrer.false) c.loop-row.row (omega (arith, n, c.loop-row-test.true)));
     }
-
-pub names-requires : goal.names-requires
-names-requires c = record { sized = c.requires.naming.long; in_level = c.requires.in_level.0 }
 
 pub returns-then-names : goal.returns-then-names
 returns-then-names c = let k = c.requires.naming in

@@ -2,9 +2,8 @@ use native.Mathlib.Omega.{arith}
 use Rattle.bounded.proofs.Any.{any-more}
 use Rattle.bounded.proofs.Reflection.{is_true, of-true}
 use Rattle.model.proofs.Sound.{relation-r}
-use Rattle.cells.proofs.Counts.{sound-says, in-level}
 use Rattle.delete.proofs.Emptying.{referred-start, referred-here, referred-none}
-use Rattle.delete.proofs.referred.Goals as goal
+use Rattle.delete.proofs.Rows.referred.Goals as goal
 
 -- The invariant: no row of a relation that was passed refers to a chosen one.
 
@@ -13,7 +12,7 @@ loop-referrer-init c = referred-start _ _ _ _ _
 
 pub refers-requires : goal.refers-requires
 refers-requires c = let n = c.requires in let l = c.loop-referrer in record {
-  in_level = (in-level _ n.sound-is _ n.relation _ n.level, (of-true (relation-r _ _) n.relation).0);
+  relation_nonzero = (of-true (relation-r _ _) n.relation).0;
   naming = record { sound-is = n.sound-is; relation = is_true (relation-r _ _) (l.auto.referrer, omega arith); level = n.level; long = n.long };
 }
 

@@ -2,16 +2,13 @@ use mathlib.Core.Path.{◌∙◌}
 use Rattle.model.specs.Update.{update_tests}
 use Rattle.change.proofs.Ended.{fails, passes, no_more, range-test}
 use Rattle.change.proofs.Known.{own-over, naming}
-use Rattle.update.proofs.Updated.{update-columns, reference-test}
-use Rattle.update.proofs.check.Goals as goal
+use Rattle.update.proofs.Updated.{reference-test}
+use Rattle.update.proofs.Set.check.Goals as goal
 
 pub returns-then-not-each : goal.returns-then-not-each
 unfolding update_tests
 returns-then-not-each c = let e = rw (c.columns.ensures.described, c.columns.ensures.of_relation) at c.each.ensures in
     fails _ _ (range-test _ _ _ _ e ∙ c.if-not-each.true)
-
-pub reference-requires : goal.reference-requires
-reference-requires c = record { naming = naming c.requires.standing; columns_listed = update-columns _ _ _ c.requires.formed_list }
 
 pub returns-then-not-reference : goal.returns-then-not-reference
 unfolding update_tests
