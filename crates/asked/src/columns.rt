@@ -1,10 +1,13 @@
 // The columns of a relation, and which levels they take.
 ghost use Rattle.std.specs.Prelude.{◌≡◌};
 ghost use Rattle.model.specs.Description.{in_range, is_column};
+ghost use Rattle.model.specs.Listed.{each as each_of};
 ghost use Rattle.model.specs.Tables.{own_null};
+ghost use Rattle.asked.specs.Facts.{rule_of};
 ghost use Rattle.asked.specs.Known.{Related};
 
 use crate::levels::Levels;
+use crate::pairs::Rule;
 
 // A relation of a description, and how many columns it has.
 #[derive(Clone, Copy)]
@@ -17,7 +20,7 @@ pub struct Columns {
 
 impl Columns {
     // The column exists.
-    pub(crate) fn exists(self, column: usize) -> bool
+    fn exists(self, column: usize) -> bool
         ensures { result ≡ is_column self.levels.description self.relation column }
     {
         1 <= column && column <= self.count
@@ -25,7 +28,7 @@ impl Columns {
 
     // Whether a level is in the range of a column that exists.
     #[tactic(auto, using(crate::proofs::Levelled::in_ranges))]
-    pub(crate) fn takes(self, column: usize, level: usize) -> bool
+    fn takes(self, column: usize, level: usize) -> bool
         ensures { result ≡ in_range self.levels.description self.relation column level }
     {
         if !self.exists(column) {
@@ -45,5 +48,27 @@ impl Columns {
             return level;
         }
         255
+    }
+
+    // One pair is as the rule asks.
+    fn holds(self, rule: Rule, column: usize, second: usize) -> bool
+        ensures { result ≡ rule_of self.levels.description self.relation rule column second }
+    {
+        match rule {
+            Rule::Column => self.exists(column),
+            Rule::From => self.exists(column) && second < self.levels.description.levels as usize,
+            Rule::Takes { level } => self.takes(column, level),
+            Rule::Lends => self.takes(column, second),
+            Rule::Below { level } => self.levels.over(level, second),
+            Rule::Above { level } => self.levels.over(second, level),
+        }
+    }
+
+    // Every pair is as the rule asks.
+    pub fn each(self, list: &[u32], rule: Rule) -> bool
+        ensures { result ≡ each_of (rule_of self.levels.description self.relation rule) list.now }
+    {
+        let (pairs, _) = list.as_chunks::<2>();
+        pairs.iter().all(|[column, second]| self.holds(rule, *column as usize, *second as usize))
     }
 }
