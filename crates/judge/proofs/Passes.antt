@@ -174,9 +174,6 @@ module _ (d : Description) (vs cs ks ss : List ℕ) (L : Laid d vs cs ks ss) (r 
   pub laid-ready : Ready d vs cs ks a
   laid-ready = rw (e, add-one r) (L.ready r h)
 
-  pub laid-named : {t : ℕ} → t ≡ get_or d.refers (r + 1) 0 → t ≤ 8
-  laid-named x = rw (x, add-one r) (L.named r h)
-
   pub laid-refers : {t : ℕ} {b : Area} → t ≡ get_or d.refers (r + 1) 0 → b ≡ area_of d ss t → Refers d vs cs ks a b
   laid-refers x y = rw (y, x, e, add-one r) (L.refers r h)
 
