@@ -16,13 +16,6 @@ use Rattle.above.specs.declared.plan.Plan.{Plan}
 use Rattle.uplevel.specs.declared.made.News.{News}
 use Rattle.change.specs.Facts.{Filled}
 
--- ---- what is known
-
--- every column of the list exists, and the subject sees its FROM levels
-pub record Listing (d : Description) (r c : ℕ) (list : List ℕ) : Type 0 where
-  pub columns : each (λ k a. is_column d r k && is_level d a) list ≡ true
-  pub seen : each (λ k a. over d c a) list ≡ true
-
 -- ---- the key class
 
 -- the key class that is given: 255 says that none is
