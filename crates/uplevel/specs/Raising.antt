@@ -5,7 +5,7 @@ use Rattle.bounded.specs.Bounded.{first_below, count_below, some_below}
 use Rattle.model.specs.declared.Description.{Description}
 use Rattle.model.specs.declared.Fault.{Fault}
 use Rattle.model.specs.declared.Fault.TheVariants as Faults
-use Rattle.model.specs.Description.{is_level, over, is_column, row_count, column_count, foreign_of}
+use Rattle.model.specs.Description.{over, row_count, column_count, foreign_of}
 use Rattle.model.specs.Tables.{Cell, Tables, State, rows_of, same, used, at}
 use Rattle.model.specs.Listed.{each}
 use Rattle.model.specs.Effect.{Rows, agrees, lowest_empty, has_room}
