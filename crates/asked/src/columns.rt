@@ -20,6 +20,7 @@ pub struct Columns {
 
 impl Columns {
     // The column exists.
+    #[tactic(auto, unfolding(model::specs::Description::is_column, model::specs::Description::between))]
     fn exists(self, column: usize) -> bool
         ensures { result ≡ is_column self.levels.description self.relation column }
     {
@@ -27,7 +28,7 @@ impl Columns {
     }
 
     // Whether a level is in the range of a column that exists.
-    #[tactic(auto, using(crate::proofs::Levelled::in_ranges))]
+    #[tactic(auto, using(crate::proofs::Levelled::in_ranges), unfolding(model::specs::Description::in_range, model::specs::Description::high_of, model::specs::Description::low_of))]
     fn takes(self, column: usize, level: usize) -> bool
         ensures { result ≡ in_range self.levels.description self.relation column level }
     {
@@ -41,6 +42,7 @@ impl Columns {
     }
 
     // The class of a column's own null at a level.
+    #[tactic(auto, unfolding(model::specs::Tables::own_null))]
     pub fn null(self, column: usize, level: u8) -> u8
         ensures { result ≡ (own_null self.levels.description self.relation column level).class }
     {
@@ -51,6 +53,7 @@ impl Columns {
     }
 
     // One pair is as the rule asks.
+    #[tactic(auto, unfolding(crate::specs::Facts::rule_of, model::specs::Description::is_level))]
     fn holds(self, rule: Rule, column: usize, second: usize) -> bool
         ensures { result ≡ rule_of self.levels.description self.relation rule column second }
     {

@@ -19,6 +19,7 @@ use model::Description;
 // ---- whether they are well formed
 
 // One condition is well formed.
+#[tactic(auto, using(crate::proofs::Meeting::unread))]
 fn well_formed(
     condition: [u32; 4],
     description: Description,

@@ -8,9 +8,6 @@ use Rattle.conditions.proofs.chosen.Goals as goal
 
 -- The invariant: a row is chosen where it is in use and meets the conditions that were passed.
 
-pub used-chosen-requires : goal.used-chosen-requires
-used-chosen-requires c = record { sized = c.requires.lent.values; in_level = c.requires.in_level }
-
 pub loop-condition-init : goal.loop-condition-init
 loop-condition-init c = met_start _ _ _ _ _ _ _ _ c.used-chosen.ensures
 
@@ -19,9 +16,6 @@ unfolding condition_count
 unwrap-asked-requires c =
     let h : c.loop-condition.condition-index < length c.args.conditions.now / 4 = omega arith in
     read-at _ _ _ _ c.requires.asking.formed h _ (rw c.as_chunks.ensures.front (entry-asks _ _ h)) _ c.read.ensures
-
-pub line-line-requires : goal.line-line-requires
-line-line-requires c = c.requires.asking.ordered
 
 pub invariant_of-filter : goal.invariant_of-filter
 unfolding condition_count

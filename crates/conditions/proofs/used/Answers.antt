@@ -8,11 +8,9 @@ use Rattle.conditions.proofs.used.Goals as goal
 pub loop-row-init : goal.loop-row-init
 loop-row-init c = chosen_none _
 
-pub value_at-requires : goal.value_at-requires
-value_at-requires c = record { sized = c.requires.sized; cell_inside = row_inside _ _ _ _ _ (record { level = c.requires.in_level; row = omega (arith, c.args.part.laid.rows, c.loop-row-test.true) }) (omega arith) c.requires.in_level.keyed }
-
-pub bounds-chosen-row : goal.bounds-chosen-row
-bounds-chosen-row c = omega (arith, c.args.part.laid.few, c.loop-row-test.true)
+pub value_at-requires-clause-cell_inside : goal.value_at-requires-clause-cell_inside
+value_at-requires-clause-cell_inside c =
+    row_inside _ _ _ _ _ (record { level = c.requires.in_level; row = omega (arith, c.args.part.laid.rows, c.loop-row-test.true) }) (omega arith) c.requires.in_level.keyed
 
 pub loop-row-preserved : goal.loop-row-preserved
 loop-row-preserved c = let l = c.loop-row in

@@ -8,15 +8,6 @@ use Rattle.conditions.proofs.filter.Filter.narrow.Goals.{then-chosen-row, else-c
 pub loop-row-init : goal.loop-row-init
 loop-row-init c = narrowed_none _ _ _ _ (omega arith)
 
-pub bounds-chosen-row : goal.bounds-chosen-row
-bounds-chosen-row c = omega (arith, c.args.self.part.laid.few)
-
-pub meets-requires : goal.meets-requires
-meets-requires c = record { lent = c.requires.lent; in_row = record { level = c.requires.in_level; row = omega (arith, c.args.self.part.laid.rows, c.loop-row-test.true) } }
-
-pub bounds-chosen-row-then-chosen-row : goal.bounds-chosen-row-then-chosen-row
-bounds-chosen-row-then-chosen-row c = omega (arith, c.args.self.part.laid.few)
-
 pub loop-row-preserved : goal.loop-row-preserved
 loop-row-preserved c = let l = c.loop-row in
     elim c.if-chosen-row.branch [
