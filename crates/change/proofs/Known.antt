@@ -10,7 +10,7 @@ use Rattle.model.specs.Description.{over, sound}
 use Rattle.cells.specs.Layout.{InLevel, Lent}
 use Rattle.cells.proofs.Counts.{in-level}
 use Rattle.theory.proofs.Described.{sound-laws}
-use Rattle.change.specs.Facts.{Standing, Naming}
+use Rattle.change.specs.Facts.{Standing}
 
 -- ---- of a level
 
@@ -22,9 +22,6 @@ over-self d s c h = (sound-laws d s).reflexive c h
 module _ {d : Description} {r c : ℕ} {vs cs : List ℕ} (S : Standing d r c vs cs) where
   pub own-level : InLevel d r c
   own-level = in-level d S.sound-is r S.relation c S.level
-
-  pub naming : Naming d r c (length vs)
-  naming = record { sound-is = S.sound-is; relation = S.relation; level = S.level; long = S.long }
 
   pub lent : Lent d (length vs) (length cs)
   lent = record { values = S.long; classes = S.wide }

@@ -1,4 +1,4 @@
-use Rattle.change.proofs.Known.{own-level, naming, lent}
+use Rattle.change.proofs.Known.{own-level}
 use Rattle.chosen.proofs.Carrying.{met-chosen, counted}
 use Rattle.delete.proofs.Deleted.{delete-refused, delete-passes, delete-done}
 use Rattle.delete.proofs.delete.Goals as goal

@@ -1,6 +1,6 @@
 use Rattle.std.proofs.lemmas.Result.{err_from_is_err_and}
 use Rattle.change.proofs.Ended.{failed-answer, passed-by}
-use Rattle.change.proofs.Known.{own-level, lent}
+use Rattle.change.proofs.Known.{own-level}
 use Rattle.chosen.proofs.Carrying.{met-chosen, counted}
 use Rattle.update.proofs.Updated.{update-done}
 use Rattle.update.proofs.update.Goals as goal

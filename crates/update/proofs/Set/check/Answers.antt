@@ -1,7 +1,7 @@
 use mathlib.Core.Path.{◌∙◌}
 use Rattle.model.specs.Update.{update_tests}
 use Rattle.change.proofs.Ended.{fails, passes, no_more, range-test}
-use Rattle.change.proofs.Known.{own-over, naming}
+use Rattle.change.proofs.Known.{own-over}
 use Rattle.update.proofs.Updated.{reference-test}
 use Rattle.update.proofs.Set.check.Goals as goal
 

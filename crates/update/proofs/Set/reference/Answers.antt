@@ -1,4 +1,3 @@
-use borrow.Author.Tests.{eq-eqb, ne_eqb}
 use Rattle.update.proofs.Updated.{update-columns}
 use Rattle.update.proofs.Set.reference.Goals as goal
 

@@ -1,7 +1,6 @@
 use mathlib.Core.Path.{refl, ap, ◌∙◌}
-use native.Mathlib.Omega.{arith}
 use lib.ListN.{length}
-use Rattle.above.proofs.Turns.{rows_start, rows_end}
+use Rattle.above.proofs.Turns.{rows_start}
 use Rattle.chosen.proofs.Choosing.{more-chosen, more-unchosen}
 use Rattle.update.proofs.Set.rows.Goals as goal
 use Rattle.update.proofs.Set.rows.Goals.{then-chosen-row, else-chosen-row}
