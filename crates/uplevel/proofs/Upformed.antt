@@ -17,7 +17,7 @@ use Rattle.model.specs.Listed.{whole, pairs, column_at, each, lists, columns_onc
 use Rattle.model.specs.Uplevel.{uplevel_formed}
 use Rattle.asked.specs.declared.pairs.Rule.TheVariants as Rules
 use Rattle.asked.specs.Facts.{rule_of, Found}
-use Rattle.uplevel.specs.Raising.{Listing}
+use Rattle.uplevel.specs.Listed.{Listing}
 use Rattle.uplevel.proofs.Entities.{some-is}
 
 -- test after test

@@ -44,7 +44,8 @@ use Rattle.above.specs.Facts.{Working, Planned, chosen_at, effect_of, change_of,
 use Rattle.above.proofs.Carried.{carried-own, carried-aside, carried-cell}
 use Rattle.uplevel.specs.declared.made.News.{News}
 use Rattle.change.specs.Facts.{Standing}
-use Rattle.uplevel.specs.Raising.{Planning, spot_of, Listing, Composed}
+use Rattle.uplevel.specs.Listed.{Listing}
+use Rattle.uplevel.specs.Raising.{Planning, spot_of, Composed}
 use Rattle.uplevel.specs.Raised.{Reached}
 use Rattle.change.proofs.Answers.{left-still, left-own, left_over, left_other}
 use Rattle.cells.proofs.Counts.{relation-is}

@@ -5,7 +5,7 @@ use Rattle.bounded.specs.Bounded.{first_below, count_below, some_below}
 use Rattle.model.specs.declared.Description.{Description}
 use Rattle.model.specs.declared.Fault.{Fault}
 use Rattle.model.specs.declared.Fault.TheVariants as Faults
-use Rattle.model.specs.Description.{is_level, over, is_column, row_count, column_count, foreign_of}
+use Rattle.model.specs.Description.{over, row_count, column_count, foreign_of}
 use Rattle.model.specs.Tables.{Cell, Tables, State, rows_of, same, used, at}
 use Rattle.model.specs.Listed.{each}
 use Rattle.model.specs.Effect.{Rows, agrees, lowest_empty, has_room}
@@ -15,13 +15,6 @@ use Rattle.above.specs.declared.plan.Change.TheVariants as Changes
 use Rattle.above.specs.declared.plan.Plan.{Plan}
 use Rattle.uplevel.specs.declared.made.News.{News}
 use Rattle.change.specs.Facts.{Filled}
-
--- ---- what is known
-
--- every column of the list exists, and the subject sees its FROM levels
-pub record Listing (d : Description) (r c : ℕ) (list : List ℕ) : Type 0 where
-  pub columns : each (λ k a. is_column d r k && is_level d a) list ≡ true
-  pub seen : each (λ k a. over d c a) list ≡ true
 
 -- ---- the key class
 

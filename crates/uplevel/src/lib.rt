@@ -5,19 +5,19 @@ mod effect;
 mod lenders;
 mod made;
 mod meant;
+mod raising;
 mod tests;
 
 ghost use Rattle.std.specs.Prelude.{◌≡◌, true, ◌≤◌};
 ghost use Rattle.model.specs.Tables.{cell};
 ghost use Rattle.model.specs.Uplevel.{uplevel_formed};
 ghost use Rattle.change.specs.Facts.{Standing, Uplevels};
-ghost use Rattle.uplevel.specs.Raising.{Listing, given_of, class_seen, levels_seen};
+ghost use Rattle.uplevel.specs.Raising.{given_of, class_seen, levels_seen};
 ghost use Rattle.uplevel.specs.Raised.{Raises};
 
 use crate::effect::{reach, spot};
-use crate::made::compose;
 use crate::meant::{Entity, own};
-use crate::tests::check;
+use crate::raising::Raising;
 use asked::columns::Columns;
 use asked::levels::Levels;
 use asked::pairs::{Rule, find, once};
@@ -42,24 +42,18 @@ pub fn formed(list: &[u32], columns: Columns, key: u32, class: usize) -> bool
 // ---- the statement
 
 // The tests after the entity is known, and then the new row.
-fn raise(
-    values: &mut [u32],
-    classes: &mut [u8],
-    list: &[u32],
-    table: Table,
-    subject: usize,
-    entity: Entity,
-) -> Answer
-    requires standing { Standing table.part.description table.part.relation subject values.old classes.old }
-    requires listing { Listing table.part.description table.part.relation subject list.now }
-    ensures { Raises table.part.description subject table.part.relation (cell entity.key entity.class) list.now values.old classes.old values.new classes.new result }
+fn raise(values: &mut [u32], classes: &mut [u8], raising: &Raising) -> Answer
+    requires { Standing raising.now.table.part.description raising.now.table.part.relation raising.now.subject values.old classes.old }
+    ensures { Raises raising.now.table.part.description raising.now.subject raising.now.table.part.relation (cell raising.now.entity.key raising.now.entity.class) raising.now.list.now values.old classes.old values.new classes.new result }
 {
-    let part = table.part;
+    let part = raising.table.part;
+    let subject = raising.subject;
+    let entity = raising.entity;
     let here = part.entity(values, classes, subject, entity.key, entity.class);
-    check(values, classes, list, table, subject, entity, here)?;
+    raising.check(values, classes, here)?;
     let row = spot(values, classes, part, subject, here).ok_or(Fault::Full)?;
-    let news = compose(values, classes, list, table, subject, entity);
-    reach(values, classes, table, subject, here, news);
+    let news = raising.compose(values, classes);
+    reach(values, classes, raising.table, subject, here, news);
     part.store(values, classes, subject, row, news.values, news.classes);
     Ok(1)
 }
@@ -116,5 +110,11 @@ pub fn uplevel(
     }
     let own = own(values, classes, table, subject, key, given)?;
     let entity = Entity { key, class: own };
-    raise(values, classes, list, table, subject, entity)
+    let raising = Raising {
+        list,
+        table,
+        subject,
+        entity,
+    };
+    raise(values, classes, &raising)
 }

@@ -29,10 +29,10 @@ returns-in_err-own c = let k = c.columns-columns.ensures in
     let e = rw (c.given-given.ensures) at c.in_err-own.ensures in
     rw (p.1, p.2) (refused-answer _ _ _ _ _ _ _ _ x c.if-not-seen.false y c.if-not-each.false c.requires.standing.sound-is e)
 
-pub raise-requires-clause-listing : goal.raise-requires-clause-listing
-raise-requires-clause-listing c = let k = c.columns-columns.ensures in
+pub invariant_of-raising : goal.invariant_of-raising
+invariant_of-raising c = let k = c.columns-columns.ensures in
     let x = rw (k.described, c.given-given.ensures) at c.seen.ensures in
-    formed-lists _ _ _ _ _ c.requires.formed_list _ (from-sees _ _ _ _ x c.if-not-seen.false)
+    record { listing = formed-lists _ _ _ _ _ c.requires.formed_list _ (from-sees _ _ _ _ x c.if-not-seen.false) }
 
 pub returns : goal.returns
 returns c = let k = c.columns-columns.ensures in

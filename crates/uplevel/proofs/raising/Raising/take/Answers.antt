@@ -5,7 +5,7 @@ use Rattle.cells.proofs.Counts.{in-level}
 use Rattle.change.proofs.Known.{own-over}
 use Rattle.uplevel.proofs.Entities.{level-few}
 use Rattle.uplevel.proofs.Borrowing.{taken-strayed, taken-lent}
-use Rattle.uplevel.proofs.made.take.Goals as goal
+use Rattle.uplevel.proofs.raising.Raising.take.Goals as goal
 
 pub lent-value-requires-clause-in_level : goal.lent-value-requires-clause-in_level
 lent-value-requires-clause-in_level c = let q = c.requires.standing.0 in
