@@ -1,4 +1,4 @@
--- The tests of a description: one law for each way through the code.
+-- What the tests of a description come to, in the numbers that stand in it.
 -- Assumes nothing.
 use mathlib.Core.Path.{◌≡◌, refl, sym, ◌∙◌}
 use mathlib.Core.Bool.{Bool, true, false, not, ◌&&◌, ◌||◌}

@@ -19,6 +19,7 @@ pub fn wide(x: u16) -> usize
 }
 
 // `n` is from `low` to `high`.
+#[tactic(auto, using(std::proofs::lemmas::Bool::Decides::nat_tests), unfolding(model::specs::Description::between))]
 fn between(low: u16, high: u16, n: u16) -> bool
     ensures { result ≡ between_of low high n }
 {
@@ -147,6 +148,7 @@ pub fn total(d: Description) -> usize
 }
 
 // The description is sound; `order` is the order of its levels.
+#[tactic(auto, unfolding(model::specs::Description::sound))]
 pub fn ordered(d: Description, order: [[bool; 16]; 16]) -> bool
     requires { order ≡ order_of d.labels d.levels }
     ensures { result ≡ descriptions.sound d }

@@ -1,131 +1,98 @@
 // Standard input, a buffer at a time: the record at the front is there whole, if the input has it.
 ghost use Rattle.std.specs.Prelude.{◌≡◌, ◌+◌, ◌≤◌, ◌<◌, length, take};
+ghost use Rattle.std.specs.Result.{result_unwrap_or};
 ghost use Rattle.std.proofs.Math.Seq.{slice};
 ghost use Rattle.input.specs.Front.{front};
 ghost use Rattle.mlrun.specs.Reading.{Added, Holds};
 
-use crate::telling::tell;
-use crate::waiting::again;
+use crate::waiting::patiently;
 use input::buffer::shift;
-use input::front::wanted;
-use std::io::{Eprint, Error, Read};
+use input::front;
+use std::io;
+use std::io::Read;
 use std::time::Clock;
 
-// What a read came to: how many bytes came, none at the end of the input; whether it is to be made again; why it couldn't be done, if it couldn't.
-#[derive(Clone, Copy)]
-struct Came {
-    count: usize,
-    again: bool,
-    error: Option<Error>,
-}
-
-// Where in the buffer the bytes stand that were read and not used yet, and whether the input could be read.
-#[derive(Clone, Copy)]
-pub(crate) struct Window {
-    pub(crate) from: usize,
-    pub(crate) to: usize,
-    pub(crate) good: bool,
-}
-
-// One read into the buffer from a place on, which the buffer has, so that no byte means no more input.
-fn read(rt: &impl Clock, stdin: &mut impl Read, input: &mut [u8], to: usize) -> Came
-    requires { to < length input.old }
-    ensures { Added to result.count input.old input.new }
+// Reads as soon as there is something to read into the buffer from a place on, which the buffer has, so that no byte means no more input.
+fn more(rt: &impl Clock, stdin: &mut impl Read, buffer: &mut [u8], to: usize) -> io::Result<usize>
+    requires { to < length buffer.old }
+    ensures { Added to (result_unwrap_or result 0) buffer.old buffer.new }
 {
-    let part = &mut input[to..];
-    match stdin.read(part) {
-        Ok(count) => Came {
-            count,
-            again: false,
-            error: None,
-        },
-        Err(error) => Came {
-            count: 0,
-            again: again(rt, &error),
-            error: Some(error),
-        },
-    }
+    let part = &mut buffer[to..];
+    patiently(rt, || stdin.read(part))
 }
 
-// Reads as soon as there is something to read.
-fn more(rt: &impl Clock, stdin: &mut impl Read, input: &mut [u8], to: usize) -> Came
-    requires { to < length input.old }
-    ensures { Added to result.count input.old input.new }
-{
-    let mut came = read(rt, stdin, input, to);
-    let mut turn = 0u64;
-    while turn < u64::MAX {
-        if !came.again {
-            return came;
-        }
-        came = read(rt, stdin, input, to);
-        turn += 1;
-    }
-    came
-}
-
-// Tells that the input can't be read. What is there stays.
-fn unread(rt: &impl Eprint, to: usize, error: &Error) -> Window
-    ensures { (result.from ≡ 0) × (result.to ≡ to) }
-{
-    tell(rt, "mlrun: standard input can't be read", error);
-    Window {
-        from: 0,
-        to,
-        good: false,
-    }
-}
-
-// Reads on until the record at the front is there, or the input ends or can't be read, which is told.
-fn load(rt: &(impl Clock + Eprint), stdin: &mut impl Read, input: &mut [u8], there: usize) -> Window
-    requires { (there ≤ length input.old) × (1028 ≤ length input.old) }
-    ensures { Holds (take there input.old) input.new result.from result.to }
+// Reads on until the record at the front is there, or the input ends; up to which place there are bytes then.
+fn load(
+    rt: &impl Clock,
+    stdin: &mut impl Read,
+    buffer: &mut [u8],
+    there: usize,
+) -> io::Result<usize>
+    requires { (there ≤ length buffer.old) × (1028 ≤ length buffer.old) }
+    ensures { Holds (take there buffer.old) buffer.new 0 (result_unwrap_or result there) }
 {
     let mut to = there;
-    while to < wanted(&input[..to]) {
-        let came = more(rt, stdin, input, to);
-        if let Some(error) = came.error {
-            return unread(rt, to, &error);
-        }
-        if came.count == 0 {
+    while to < front::wanted(&buffer[..to]) {
+        let count = more(rt, stdin, buffer, to)?;
+        if count == 0 {
             break;
         }
-        to += came.count;
+        to += count;
     }
-    Window {
-        from: 0,
-        to,
-        good: true,
-    }
+    Ok(to)
 }
 
-// The record at the front is there whole, if the input has it: where it isn't ready, what is there moves to the front, and more is read.
-pub(crate) fn fill(
-    rt: &(impl Clock + Eprint),
-    stdin: &mut impl Read,
-    input: &mut [u8],
+// The bytes that were read and not used yet stand in the buffer from one place to another.
+#[derive(Drop)]
+pub(crate) struct Reader {
+    buffer: [u8; 65536],
     from: usize,
     to: usize,
-    ready: bool,
-) -> Window
-    requires { (from ≤ to) × (to ≤ length input.old) × (1028 ≤ length input.old) }
-    ensures { Holds (slice from to input.old) input.new result.from result.to }
-{
-    if ready {
-        return Window {
-            from,
-            to,
-            good: true,
-        };
-    }
-    let there = shift(input, from, to);
-    load(rt, stdin, input, there)
+    ghost ordered: { from ≤ to },
+    ghost within: { to ≤ length buffer },
+    // no record is longer
+    ghost record_fits: { 1028 ≤ length buffer },
 }
 
-// How many bytes of the record at the front are there.
-pub(crate) fn size(input: &[u8], from: usize, to: usize) -> usize
-    requires { (from ≤ to) × (to ≤ length input.now) }
-    ensures { (result ≡ length (front (slice from to input.now))) × (from + result ≤ to) }
-{
-    input::front::size(&input[from..to])
+impl Reader {
+    pub(crate) fn new() -> Self {
+        Reader {
+            buffer: [0; 65536],
+            from: 0,
+            to: 0,
+        }
+    }
+
+    // The record at the front is there whole, or is known to be refused.
+    pub(crate) fn ready(&self) -> bool {
+        front::ready(&self.buffer[self.from..self.to])
+    }
+
+    // What is there moves to the front, and more is read: the record at the front is there whole, if the input has it.
+    pub(crate) fn fill(&mut self, rt: &impl Clock, stdin: &mut impl Read) -> io::Result<()>
+        ensures { Holds (slice self.old.from self.old.to self.old.buffer) self.new.buffer self.new.from self.new.to }
+    {
+        let there = shift(&mut self.buffer, self.from, self.to);
+        self.from = 0;
+        self.to = there;
+        self.to = load(rt, stdin, &mut self.buffer, there)?;
+        Ok(())
+    }
+
+    // The record at the front, as far as it is there.
+    pub(crate) fn record(&self) -> &[u8]
+        ensures is { result.now ≡ front (slice self.now.from self.now.to self.now.buffer) }
+        ensures within { self.now.from + length result.now ≤ self.now.to }
+    {
+        let held = &self.buffer[self.from..self.to];
+        &held[..front::size(held)]
+    }
+
+    // So many bytes at the front are used.
+    pub(crate) fn pass(&mut self, size: usize)
+        requires { self.old.from + size ≤ self.old.to }
+        ensures { slice self.new.from self.new.to self.new.buffer ≡ slice (self.old.from + size) self.old.to self.old.buffer }
+    {
+        self.from += size;
+    }
 }

@@ -1,4 +1,5 @@
-// One record of mlrun's stream: what it does to what is kept, and what it prints.
+// One record of mlrun's stream: what it does to what is kept, and what it prints. The tables' two buffers are parameters of their own, as
+// `register::run` is lent them.
 #![tactic(auto)]
 
 ghost use Rattle.std.specs.Prelude.{◌≡◌};
@@ -61,7 +62,7 @@ fn labels(bytes: &[u8], text: &mut [u8], description: Description, number: u64) 
     taken(0, 1, descriptions::labels(bytes, description))
 }
 
-// A record of kind 2.
+// A record of kind 2. One function for kinds 1 and 2 would take the test and the change as parameters, and be no plainer.
 fn relation(bytes: &[u8], text: &mut [u8], description: Description, number: u64) -> Stepped
     ensures { TurnsAny (λ h. relation_turn h number bytes.now) description text result }
 {

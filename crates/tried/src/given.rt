@@ -1,15 +1,13 @@
 // What is given is a list of numbers. From place 0 on it has the description, field by field; from 216 on how long values, classes, shown and
 // owners are; from 1,000 on the values and from 10,000 on the classes.
-ghost use Rattle.std.specs.Prelude.{◌≤◌};
+ghost use Rattle.std.specs.Prelude.{◌+◌, ◌≤◌};
 
 use model::Description;
+use std::array;
 
 // The number at a place; 0 behind the end.
 pub(crate) fn entry(numbers: &[u32], place: usize) -> u32 {
-    if numbers.len() <= place {
-        return 0;
-    }
-    numbers[place]
+    numbers.get(place).copied().unwrap_or(0)
 }
 
 pub(crate) fn word(numbers: &[u32], place: usize) -> u16 {
@@ -20,83 +18,72 @@ pub(crate) fn size(numbers: &[u32], place: usize) -> usize {
     entry(numbers, place) as usize
 }
 
-pub(crate) fn least(a: usize, b: usize) -> usize
-    ensures { (result ≤ a) × (result ≤ b) }
-{
-    if a < b { a } else { b }
+#[derive(Drop)]
+pub(crate) struct Given {
+    numbers: [u32; 20000],
 }
 
-// The labels, which stand behind the count of levels.
-fn labels(given: &[u32]) -> [u16; 16] {
-    let mut labels = [0; 16];
-    for i in 0..16 {
-        labels[i] = word(given, 1 + i);
+impl Given {
+    pub(crate) fn new() -> Self {
+        Given {
+            numbers: [0; 20000],
+        }
     }
-    labels
-}
 
-// Nine numbers, one for each relation.
-fn nine(given: &[u32], from: usize) -> [u16; 9]
-    requires { from ≤ 220 }
-{
-    let mut nine = [0; 9];
-    for i in 0..9 {
-        nine[i] = word(given, from + i);
+    // One number for each level, relation, or relation and column.
+    fn words<const N: usize>(&self, from: usize) -> [u16; N]
+        requires { from + N ≤ 1000 }
+    {
+        array::from_fn(|i| word(&self.numbers, from + i))
     }
-    nine
-}
 
-// Eighty-one numbers, one for each relation and column.
-fn ranges(given: &[u32], from: usize) -> [u16; 81]
-    requires { from ≤ 220 }
-{
-    let mut ranges = [0; 81];
-    for i in 0..81 {
-        ranges[i] = word(given, from + i);
+    pub(crate) fn description(&self) -> Description {
+        Description {
+            levels: word(&self.numbers, 0),
+            labels: self.words(1),
+            relations: word(&self.numbers, 17),
+            columns: self.words(18),
+            rows: self.words(27),
+            foreign: self.words(36),
+            refers: self.words(45),
+            low: self.words(54),
+            high: self.words(135),
+        }
     }
-    ranges
-}
 
-pub(crate) fn described(given: &[u32]) -> Description {
-    Description {
-        levels: word(given, 0),
-        labels: labels(given),
-        relations: word(given, 17),
-        columns: nine(given, 18),
-        rows: nine(given, 27),
-        foreign: nine(given, 36),
-        refers: nine(given, 45),
-        low: ranges(given, 54),
-        high: ranges(given, 135),
+    // How many values and classes the tables have.
+    pub(crate) fn tables(&self) -> (usize, usize) {
+        (size(&self.numbers, 216), size(&self.numbers, 217))
     }
-}
 
-// Numbers stored over and over, as far as there is room.
-fn fill(from: &[u32], to: &mut [u32]) {
-    let n = from.len();
-    if n == 0 {
-        return;
+    // How many values and owners the output has room for.
+    pub(crate) fn output(&self) -> (usize, usize) {
+        (size(&self.numbers, 218), size(&self.numbers, 219))
     }
-    let mut i = 0;
-    while i < to.len() {
-        to[i] = entry(from, i % n);
-        i += 1;
-    }
-}
 
-// A place, how many numbers are stored from there on, and the numbers.
-pub(crate) fn store(given: &mut [u32], numbers: &[u32]) {
-    if numbers.len() < 2 {
-        return;
+    pub(crate) fn values(&self) -> &[u32] {
+        &self.numbers[1000..10000]
     }
-    let from = size(numbers, 0);
-    if given.len() < from {
-        return;
+
+    pub(crate) fn classes(&self) -> &[u32] {
+        &self.numbers[10000..19000]
     }
-    let count = size(numbers, 1);
-    if given.len() - from < count {
-        return;
+
+    // A line's numbers are a place, how many numbers are stored from there on, and the numbers, which are stored over and over.
+    pub(crate) fn store(&mut self, line: &[u32]) {
+        let [place, count, numbers @ ..] = line else {
+            return;
+        };
+        let from = *place as usize;
+        let to = from + *count as usize;
+        if self.numbers.len() < to {
+            return;
+        }
+        for (to, from) in self.numbers[from..to]
+            .iter_mut()
+            .zip(numbers.iter().cycle())
+        {
+            *to = *from;
+        }
     }
-    let end = from + count;
-    fill(&numbers[2..], &mut given[from..end]);
 }

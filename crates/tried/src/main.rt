@@ -12,92 +12,48 @@
 // Every other line is passed over.
 #![tactic(auto)]
 
+mod call;
 mod given;
+mod lent;
 mod read;
 mod shown;
-mod tables;
 mod timed;
 
+use given::Given;
+use lent::Cells;
 use std::io;
 use std::io::Print;
 
-// The text of a line that is to be printed.
-fn say(rt: &impl Print, line: &[u8]) -> io::Result<()> {
-    if line.len() < 2 {
-        return Ok(());
-    }
-    let end = line.len() - 1;
-    match line[0] {
-        b'>' => rt.write_all(&line[1..]),
-        b'=' => rt.write_all(&line[1..end]),
-        _ => Ok(()),
-    }
-}
-
-// What a line asks of tables that are as long as was given.
+// What a line with these numbers asks.
 fn act(
     rt: &impl Print,
-    first: u8,
-    given: &[u32],
-    values: &mut [u32],
-    classes: &mut [u8],
+    line: &[u8],
     numbers: &[u32],
+    given: &mut Given,
+    mut tables: Cells<'_>,
 ) -> io::Result<()> {
-    match first {
-        b't' => tables::set(given, values, classes, numbers),
-        b'j' => shown::judge(rt, given, values, classes)?,
-        b's' => shown::statement(rt, given, values, classes, numbers)?,
-        b'r' => timed::repeat(rt, given, values, classes, numbers)?,
+    match line {
+        [b'>', text @ ..] | [b'=', text @ .., _] => rt.write_all(text)?,
+        [b'g', ..] => given.store(numbers),
+        [b't', ..] => tables.set(given, numbers),
+        [b'j', ..] => shown::judge(rt, given, &tables)?,
+        [b's', ..] => shown::statement(rt, given, &mut tables, numbers)?,
+        [b'r', ..] => timed::repeat(rt, given, &tables, numbers)?,
         _ => {}
     }
     Ok(())
 }
 
-// What a line with this first byte and these numbers asks.
-fn turn(
-    rt: &impl Print,
-    first: u8,
-    given: &mut [u32],
-    values: &mut [u32],
-    classes: &mut [u8],
-    numbers: &[u32],
-) -> io::Result<()> {
-    if first == b'g' {
-        given::store(given, numbers);
-        return Ok(());
-    }
-    let n = given::least(given::size(given, 216), values.len());
-    let m = given::least(given::size(given, 217), classes.len());
-    act(
-        rt,
-        first,
-        given,
-        &mut values[..n],
-        &mut classes[..m],
-        numbers,
-    )
-}
-
 // Line after line, as long as what they print can be written.
 fn lines(rt: &impl Print, bytes: &[u8]) -> io::Result<()> {
-    let mut given = [0u32; 20000];
+    let mut given = Given::new();
     let mut values = [0u32; 8200];
     let mut classes = [0u8; 8200];
-    let mut at = 0;
-    while at < bytes.len() {
-        let end = read::end(bytes, at);
-        let mut numbers = [0u32; 600];
-        let count = read::numbers(&bytes[at..end], &mut numbers);
-        say(rt, &bytes[at..end])?;
-        turn(
-            rt,
-            bytes[at],
-            &mut given,
-            &mut values,
-            &mut classes,
-            &numbers[..count],
-        )?;
-        at = end;
+    for line in bytes.split_inclusive(|byte| *byte == b'\n') {
+        let mut room = [0u32; 600];
+        let numbers = read::numbers(line, &mut room);
+        let tables = Cells::front(&mut values, &mut classes, given.tables());
+        act(rt, line, numbers, &mut given, tables)?;
     }
     Ok(())
 }
@@ -105,6 +61,5 @@ fn lines(rt: &impl Print, bytes: &[u8]) -> io::Result<()> {
 fn main(rt: HostRuntime) -> io::Result<()> {
     let mut bytes = [0u8; 131072];
     let mut stdin = rt.stdin();
-    let count = read::full(&mut stdin, &mut bytes);
-    lines(&rt, &bytes[..count])
+    lines(&rt, read::full(&mut stdin, &mut bytes))
 }

@@ -1,85 +1,40 @@
-// The input, its lines, and the numbers that stand in a line.
-ghost use Rattle.std.specs.Prelude.{◌≤◌, ◌<◌, length};
-
+// The input, and the numbers that stand in a line of it.
 use std::io::Read;
 
-// Reads until there is no more room, the input ends or a read fails; how many bytes came.
-pub(crate) fn full(stdin: &mut impl Read, bytes: &mut [u8]) -> usize
-    ensures { result ≤ length bytes.old }
-{
+// What is read until there is no more room, the input ends or a read fails.
+pub(crate) fn full<'a>(stdin: &mut impl Read, room: &'a mut [u8]) -> &'a [u8] {
     let mut count = 0;
-    while count < bytes.len() {
-        let came = stdin.read(&mut bytes[count..]).unwrap_or(0);
-        if came == 0 {
+    while count < room.len() {
+        match stdin.read(&mut room[count..]) {
+            Ok(0) | Err(_) => break,
+            Ok(came) => count += came,
+        }
+    }
+    &room[..count]
+}
+
+// A number with one digit more, or as it is where no room is left for one.
+fn grown(number: u32, byte: u8) -> u32 {
+    if byte.is_ascii_digit() && number <= 429496728 {
+        number * 10 + u32::from(byte - b'0')
+    } else {
+        number
+    }
+}
+
+// The numbers of a line, as many as there is room for. A number at its very end is not over yet, and is none.
+pub(crate) fn numbers<'a>(line: &[u8], room: &'a mut [u32]) -> &'a [u32] {
+    let end = line.iter().rposition(|byte| !byte.is_ascii_digit());
+    let ended = &line[..end.unwrap_or(0)];
+    let mut count = 0;
+    for digits in ended.split(|byte| !byte.is_ascii_digit()) {
+        if count == room.len() {
             break;
         }
-        count += came;
-    }
-    count
-}
-
-// The place behind the line that starts at a place.
-pub(crate) fn end(bytes: &[u8], from: usize) -> usize
-    requires { from < length bytes.now }
-    ensures { (from < result) × (result ≤ length bytes.now) }
-{
-    let mut at = from + 1;
-    while at < bytes.len() {
-        if bytes[at - 1] == 10 {
-            return at;
+        if !digits.is_empty() {
+            room[count] = digits.iter().fold(0, |number, byte| grown(number, *byte));
+            count += 1;
         }
-        at += 1;
     }
-    at
-}
-
-fn is_digit(byte: u8) -> bool {
-    if byte < 48 {
-        return false;
-    }
-    byte < 58
-}
-
-// A number with one digit more, or as it is where the byte is no digit or no room is left for one.
-fn grown(number: u32, byte: u8) -> u32 {
-    if byte < 48 {
-        return number;
-    }
-    if 57 < byte {
-        return number;
-    }
-    if 429496728 < number {
-        return number;
-    }
-    number * 10 + (byte - 48) as u32
-}
-
-// 1 where a number ends between two bytes.
-fn ended(byte: u8, next: u8) -> usize
-    ensures { result ≤ 1 }
-{
-    if !is_digit(byte) {
-        return 0;
-    }
-    if is_digit(next) {
-        return 0;
-    }
-    1
-}
-
-// The numbers of a line go into a list of zeros; how many there are.
-pub(crate) fn numbers(line: &[u8], list: &mut [u32]) -> usize
-    ensures { result ≤ length list.old }
-{
-    let mut count = 0;
-    let mut at = 1;
-    while at < line.len() {
-        if list.len() <= count {
-            return count;
-        }
-        list[count] = grown(list[count], line[at - 1]);
-        count += ended(line[at - 1], line[at]);
-        at += 1;
-    }
-    count
+    &room[..count]
 }

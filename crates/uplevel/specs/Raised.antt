@@ -1,13 +1,12 @@
 -- What UPLEVEL's functions know and promise of the tables in two lists: vs and cs before, vs' and cs' after.
 -- Assumes nothing: these are statements.
-use Rattle.std.specs.Prelude.{ℕ, ◌≡◌, Bool, true, List, ◌≢◌}
+use Rattle.std.specs.Prelude.{ℕ, ◌<◌, ◌≡◌, List, ◌≢◌, Option, Some, None}
 use Rattle.model.specs.declared.Description.{Description}
 use Rattle.model.specs.Answers.{Answer}
-use Rattle.model.specs.Description.{column_count}
-use Rattle.model.specs.Tables.{Cell, rows_of, at}
+use Rattle.model.specs.Description.{row_count}
+use Rattle.model.specs.Tables.{Cell, State, rows_of, at}
 use Rattle.model.specs.Buffers.{holding, state_of}
 use Rattle.model.specs.Uplevel.{borrowed, raised, uplevelled}
-use Rattle.cells.specs.Changed.{listed_row, with_row, change_level}
 use Rattle.above.specs.declared.plan.Plan.{Plan}
 use Rattle.above.specs.Facts.{carried}
 use Rattle.change.specs.Facts.{sight, Answered}
@@ -16,9 +15,9 @@ use Rattle.uplevel.specs.Raising.{later_tests, Planning}
 
 -- ---- what is known
 
--- row i is in use where the entity was there
-abbrev pub Replacing : Description → ℕ → ℕ → ℕ → Bool → List ℕ → List ℕ → Type 0
-Replacing d r c i there vs cs = there ≡ true → ((state_of d (holding vs cs) c).rows r i 1).value ≢ 0
+-- the entity's row is in use, where it has one
+abbrev pub InUse : Description → ℕ → ℕ → Option ℕ → List ℕ → List ℕ → Type 0
+InUse d r c here vs cs = (i : ℕ) → here ≡ Some i → (i < row_count d r) × (((state_of d (holding vs cs) c).rows r i 1).value ≢ 0)
 
 -- ---- the new row
 
@@ -32,12 +31,19 @@ Makes d c r entity list k vs cs x = x ≡ raised d (at d (rows_of (sight d c vs 
 
 -- ---- the effect
 
--- row i at c becomes the new row; above, where the entity was there, what differs from it becomes null
-pub record Replaces (d : Description) (r c i : ℕ) (there : Bool) (news : News) (vs cs vs' cs' : List ℕ) : Type 0 where
+-- a plan for the entity's row i was carried through
+pub record Carries (d : Description) (r c i : ℕ) (news : News) (S S' : State) : Type 0 where
   pub plan : Plan
-  pub planning : Planning i there news plan
-  pub is : state_of d (holding vs' cs')
-      ≡ change_level c (with_row (column_count d r) r i (listed_row news.values news.classes)) (carried d c r plan (state_of d (holding vs cs)))
+  pub planning : Planning i news plan
+  pub is : S' ≡ carried d c r plan S
+
+-- where the entity had a row, what differed above from the new row became null, and all else stays
+unfoldable pub Reached : Description → ℕ → ℕ → News → State → Option ℕ → State → Type 0
+Reached d r c news S None S' = S' ≡ S
+Reached d r c news S (Some i) S' = Carries d r c i news S S'
+
+abbrev pub Reaches : Description → ℕ → ℕ → News → Option ℕ → List ℕ → List ℕ → List ℕ → List ℕ → Type 0
+Reaches d r c news here vs cs vs' cs' = Reached d r c news (state_of d (holding vs cs)) here (state_of d (holding vs' cs'))
 
 -- ---- the statement
 

@@ -82,8 +82,8 @@ pub record Nulling (news : News) (changes : List Change) : Type 0 where
   pub long : length changes ≡ 9
   pub only : (k : ℕ) → k < 9 → get_or changes k Changes.Keep ≡ Changes.Only (get_or news.values k 0) (get_or news.classes k 0)
 
--- what is done to the rows above where a row was replaced
-pub record Planning (row : ℕ) (there : Bool) (news : News) (P : Plan) : Type 0 where
-  pub chosen : P.chosen ≡ set (replicate 64 false) row there
+-- what is done to the rows above where row i is replaced
+pub record Planning (i : ℕ) (news : News) (P : Plan) : Type 0 where
+  pub chosen : P.chosen ≡ set (replicate 64 false) i true
   pub gone : P.gone ≡ false
   pub changes : Nulling news P.changes

@@ -1,11 +1,10 @@
 // The effect: where the new row goes, and what becomes of the rows above.
-ghost use Rattle.std.specs.Prelude.{◌≡◌, false, length, set, replicate, ◌<◌};
-ghost use Rattle.model.specs.Description.{row_count};
+ghost use Rattle.std.specs.Prelude.{◌≡◌, true, false, length, set, replicate, ◌<◌};
 ghost use Rattle.model.specs.Buffers.{holding, state_of};
 ghost use Rattle.cells.specs.Layout.{Lent, InLevel};
 ghost use Rattle.change.specs.Facts.{Standing};
 ghost use Rattle.uplevel.specs.Raising.{spot_of, Nulling};
-ghost use Rattle.uplevel.specs.Raised.{Replacing, Replaces};
+ghost use Rattle.uplevel.specs.Raised.{InUse, Reaches};
 
 use crate::made::News;
 use above::above;
@@ -31,13 +30,13 @@ pub(crate) fn spot(
     part.lowest(values, classes, subject)
 }
 
-// Only one row is chosen, or none.
-fn choose(row: usize, on: bool) -> [bool; 64]
+// Only one row is chosen.
+fn choose(row: usize) -> [bool; 64]
     requires { row < 64 }
-    ensures { result ≡ set (replicate 64 false) row on }
+    ensures { result ≡ set (replicate 64 false) row true }
 {
     let mut chosen = [false; 64];
-    chosen[row] = on;
+    chosen[row] = true;
     chosen
 }
 
@@ -54,21 +53,23 @@ fn changes(news: News) -> [Change; 9]
     changes
 }
 
-// A row becomes the new row; above, where the entity was there, what differs from it becomes null.
-pub(crate) fn write(
+// Where the entity has a row, which is `here`, what differs above from its new row becomes null.
+pub(crate) fn reach(
     values: &mut [u32],
     classes: &mut [u8],
     table: Table,
     subject: usize,
-    row: usize,
-    there: bool,
+    here: Option<usize>,
     news: News,
 )
-    requires standing { Standing table.part.description table.part.relation subject values.old classes.old × (row < row_count table.part.description table.part.relation) }
-    requires replacing { Replacing table.part.description table.part.relation subject row there values.old classes.old }
-    ensures { Replaces table.part.description table.part.relation subject row there news values.old classes.old values.new classes.new }
+    requires standing { Standing table.part.description table.part.relation subject values.old classes.old }
+    requires in_use { InUse table.part.description table.part.relation subject here values.old classes.old }
+    ensures { Reaches table.part.description table.part.relation subject news here values.old classes.old values.new classes.new }
 {
-    let chosen = choose(row, there);
+    let Some(row) = here else {
+        return;
+    };
+    let chosen = choose(row);
     let changes = changes(news);
     let plan = Plan {
         chosen,
@@ -76,6 +77,4 @@ pub(crate) fn write(
         changes,
     };
     above(values, classes, table, plan, subject);
-    let part = table.part;
-    part.store(values, classes, subject, row, news.values, news.classes);
 }

@@ -14,7 +14,7 @@ ghost use Rattle.change.specs.Facts.{Standing, Uplevels};
 ghost use Rattle.uplevel.specs.Raising.{Listing, given_of, class_seen, levels_seen};
 ghost use Rattle.uplevel.specs.Raised.{Raises};
 
-use crate::effect::{spot, write};
+use crate::effect::{reach, spot};
 use crate::made::compose;
 use crate::meant::{Entity, own};
 use crate::tests::check;
@@ -26,7 +26,8 @@ use model::{Answer, Fault};
 
 // ---- whether it is well formed
 
-// Every column and FROM level exists, no column is listed twice, the key is not, there is a key, and a key class that is given exists.
+// Every column and FROM level exists, no column is listed twice, the key is not, there is a key, and a key class that is given exists. A statement
+// gives it as a number, and 255 where it gives none.
 pub fn formed(list: &[u32], columns: Columns, key: u32, class: usize) -> bool
     ensures { result ≡ uplevel_formed columns.levels.description columns.relation key class list.now }
 {
@@ -58,7 +59,8 @@ fn raise(
     check(values, classes, list, table, subject, entity, here)?;
     let row = spot(values, classes, part, subject, here).ok_or(Fault::Full)?;
     let news = compose(values, classes, list, table, subject, entity);
-    write(values, classes, table, subject, row, here.is_some(), news);
+    reach(values, classes, table, subject, here, news);
+    part.store(values, classes, subject, row, news.values, news.classes);
     Ok(1)
 }
 

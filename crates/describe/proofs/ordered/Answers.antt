@@ -1,6 +1,5 @@
 use Rattle.std.proofs.Common.{arith}
 use Rattle.std.proofs.lemmas.Grind.{common_steps}
-use Rattle.model.specs.Description.{sound}
 use Rattle.describe.proofs.Descriptions.{between-says}
 use Rattle.describe.proofs.ordered.Goals as goal
 
@@ -9,11 +8,3 @@ labels-requires c = (between-says 1 16 _ c.between.ensures c.if-between.true).1
 
 pub relations-requires : goal.relations-requires
 relations-requires c = (c.requires, grind (arith, common_steps, between-says 1 16 c.args.d.levels c.between.ensures), grind (arith, common_steps, between-says 1 8 c.args.d.relations))
-
-pub returns-then-relations : goal.returns-then-relations
-unfolding sound
-returns-then-relations c = grind (arith, common_steps)
-
-pub returns-else-relations : goal.returns-else-relations
-unfolding sound
-returns-else-relations c = grind (arith, common_steps)

@@ -1,5 +1,5 @@
 use native.Mathlib.Omega.{arith}
-use Rattle.change.proofs.Known.{own-level, lent}
+use Rattle.change.proofs.Known.{own-level}
 use Rattle.insert.proofs.Inserted.{unbegun, full, found, room, insert-done}
 use Rattle.std.proofs.lemmas.Result.{err_from_is_err_and}
 use Rattle.insert.proofs.insert.Goals as goal

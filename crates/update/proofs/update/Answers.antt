@@ -1,13 +1,12 @@
 use Rattle.std.proofs.lemmas.Result.{err_from_is_err_and}
 use Rattle.change.proofs.Ended.{failed-answer, passed-by}
-use Rattle.change.proofs.Known.{own-level, lent}
+use Rattle.change.proofs.Known.{own-level}
 use Rattle.chosen.proofs.Carrying.{met-chosen, counted}
 use Rattle.update.proofs.Updated.{update-done}
 use Rattle.update.proofs.update.Goals as goal
 
-pub chosen-chosen-requires : goal.chosen-chosen-requires
-chosen-chosen-requires c = let k = c.requires.standing in
-    record { lent = lent k; in_level = own-level k; asking = record { ordered = c.args.table.ordered; formed = c.requires.formed_list.1 } }
+pub chosen-chosen-requires-clause-in_level : goal.chosen-chosen-requires-clause-in_level
+chosen-chosen-requires-clause-in_level c = own-level c.requires.standing
 
 pub invariant_of-set : goal.invariant_of-set
 invariant_of-set c = record { in_level = own-level c.requires.standing; formed = c.requires.formed_list.0 }
@@ -20,8 +19,8 @@ pub returns-in_err-check : goal.returns-in_err-check
 returns-in_err-check c = let p = err_from_is_err_and c.from_residual.result c.from_residual.ensures.1 in
     rw (p.1, p.2) (failed-answer c.check.ensures c.in_err-check.was)
 
-pub write-requires : goal.write-requires
-write-requires c = record { standing = c.requires.standing; only_used = met-chosen _ _ _ _ _ c.chosen-chosen.ensures }
+pub write-requires-clause-only_used : goal.write-requires-clause-only_used
+write-requires-clause-only_used c = met-chosen _ _ _ _ _ c.chosen-chosen.ensures
 
 pub returns : goal.returns
 returns c = let k = c.requires.standing in

@@ -4,7 +4,8 @@ use Rattle.std.proofs.lemmas.Result.{err_from_is_err_and}
 use Rattle.change.specs.Facts.{refuses, does}
 use Rattle.change.proofs.Answers.{first-begun}
 use Rattle.change.proofs.Ended.{failed-by}
-use Rattle.change.proofs.Known.{lent, own-level, own-over}
+use Rattle.change.proofs.Known.{own-level, own-over}
+use Rattle.uplevel.proofs.Entities.{entity-found}
 use Rattle.uplevel.proofs.Upfaults.{unfound, full, room}
 use Rattle.uplevel.proofs.Uplevelled.{in_rows, row-used, uplevel-left}
 use Rattle.uplevel.proofs.raise.Goals as goal
@@ -26,19 +27,19 @@ returns-in_err-row c = let s = c.requires.standing in
     let v = unfound f.value in
     rw (p.1, p.2, v.1) (refuses _ (full _ _ _ _ _ _ _ (own-over s) c.args.entity.keyed c.entity-here.ensures _ c.in_ok-check.ensures c.spot.ensures v.0) refl refl refl)
 
-pub write-requires : goal.write-requires
-write-requires c = let s = c.requires.standing in
+pub reach-requires-clause-in_use : goal.reach-requires-clause-in_use
+reach-requires-clause-in_use c = λ i e.
+    let h = rw e at c.entity-here.ensures in
+    ((entity-found _ _ _ _ _ _ _ h).within, row-used _ _ _ _ _ _ _ c.args.entity.keyed h)
+
+pub store-requires-clause-in_row : goal.store-requires-clause-in_row
+store-requires-clause-in_row c = let s = c.requires.standing in
     let w = sym c.in_ok-row.ensures.ok_part ∙ c.spot.ensures in
-    record {
-      standing = (s, in_rows s _ _ _ c.args.entity.keyed c.requires.listing c.entity-here.ensures w);
-      replacing = rw (c.is_some.ensures) (row-used s _ _ _ c.args.entity.keyed c.requires.listing c.entity-here.ensures w);
-    }
+    record { level = own-level s; row = in_rows s _ _ _ c.args.entity.keyed c.requires.listing c.entity-here.ensures w }
 
 pub returns : goal.returns
 returns c = let s = c.requires.standing in
     let w = sym c.in_ok-row.ensures.ok_part ∙ c.spot.ensures in
     let k = c.args.table.part.laid in
-    let h = in_rows s _ _ _ c.args.entity.keyed c.requires.listing c.entity-here.ensures w in
-    let m = rw (c.is_some.ensures) at c.write.ensures in
     does (room _ _ _ _ _ _ _ (own-over s) c.args.entity.keyed c.entity-here.ensures _ c.in_ok-check.ensures c.spot.ensures c.in_ok-row.ensures.ok_part) refl
-    (uplevel-left s _ _ _ c.args.entity.keyed c.requires.listing c.entity-here.ensures w c.compose-news.ensures (omega (arith, k.narrow, k.columns)) (omega (arith, k.few, k.rows, h)) m)
+    (uplevel-left s _ _ _ c.args.entity.keyed c.requires.listing c.entity-here.ensures w c.compose-news.ensures (omega (arith, k.narrow, k.columns)) (omega (arith, k.few, k.rows)) _ c.reach.ensures c.store.ensures)

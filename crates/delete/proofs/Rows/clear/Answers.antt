@@ -1,8 +1,7 @@
 use mathlib.Core.Path.{refl, ap, ◌∙◌}
-use native.Mathlib.Omega.{arith}
 use lib.ListN.{length}
 use Rattle.model.specs.Tables.{norow}
-use Rattle.above.proofs.Turns.{rows_start, rows_end}
+use Rattle.above.proofs.Turns.{rows_start}
 use Rattle.chosen.proofs.Choosing.{more-chosen, more-unchosen}
 use Rattle.delete.proofs.Rows.clear.Goals as goal
 use Rattle.delete.proofs.Rows.clear.Goals.{then-self-row, else-self-row}

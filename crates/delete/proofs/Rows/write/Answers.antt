@@ -1,4 +1,4 @@
-use mathlib.Core.Path.{refl, ◌∙◌}
+use mathlib.Core.Path.{refl}
 use Rattle.change.proofs.Known.{lent}
 use Rattle.chosen.proofs.Carrying.{working}
 use Rattle.delete.proofs.Deleted.{delete-left, delete-planned}

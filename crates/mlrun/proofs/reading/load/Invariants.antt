@@ -5,7 +5,7 @@ use Rattle.mlrun.proofs.reading.load.Given as goal
 
 abbrev pub invariant-loop-to : goal.invariant-loop-to
 invariant-loop-to g l =
-    (l.there ≤ l.to) × (l.to ≤ length l.fn.input) × (length l.input ≡ length l.fn.input) × Added l.there 0 l.fn.input l.input
+    (l.there ≤ l.to) × (l.to ≤ length l.fn.buffer) × (length l.buffer ≡ length l.fn.buffer) × Added l.there 0 l.fn.buffer l.buffer
 
 abbrev pub decreases-loop-to : goal.decreases-loop-to
-decreases-loop-to g l = length l.fn.input - l.to
+decreases-loop-to g l = length l.fn.buffer - l.to

@@ -1,9 +1,9 @@
--- No more bytes came than there is room for.
-use Rattle.std.proofs.Common.{◌-◌, ◌≤◌, length}
+-- No more was read than there is room for.
+use Rattle.std.proofs.Common.{length, ◌-◌, ◌≤◌}
 use Rattle.tried.proofs.read.full.Given as goal
 
 abbrev pub invariant-loop-count : goal.invariant-loop-count
-invariant-loop-count g l = l.count ≤ length l.bytes
+invariant-loop-count g l = l.count ≤ length l.room
 
 abbrev pub decreases-loop-count : goal.decreases-loop-count
-decreases-loop-count g l = length l.initial.bytes - l.count
+decreases-loop-count g l = length l.initial.room - l.count

@@ -1,9 +1,9 @@
--- There is room for the numbers so far.
-use Rattle.std.proofs.Common.{◌-◌, ◌≤◌, length}
+-- There is room for the numbers.
+use Rattle.std.proofs.Common.{◌≤◌, length}
 use Rattle.tried.proofs.read.numbers.Given as goal
 
-abbrev pub invariant-loop-at : goal.invariant-loop-at
-invariant-loop-at l = (l.count ≤ length l.list) × (1 ≤ l.at)
-
-abbrev pub decreases-loop-at : goal.decreases-loop-at
-decreases-loop-at l = length l.line - l.at
+abbrev pub invariant-loop-digits : goal.invariant-loop-digits
+invariant-loop-digits l =
+    (goal.iterator-loop-digits).can_next l.digits-iterator ×
+    (goal.iterator-loop-digits).is_finite l.digits-iterator ×
+    (l.count ≤ length l.room)

@@ -1,7 +1,7 @@
 use mathlib.Core.Path.{◌∙◌}
 use Rattle.model.specs.Update.{update_tests}
 use Rattle.change.proofs.Ended.{fails, passes, no_more, range-test}
-use Rattle.change.proofs.Known.{own-over, naming}
+use Rattle.change.proofs.Known.{own-over}
 use Rattle.update.proofs.Updated.{reference-test}
 use Rattle.update.proofs.Set.check.Goals as goal
 
@@ -9,9 +9,6 @@ pub returns-then-not-each : goal.returns-then-not-each
 unfolding update_tests
 returns-then-not-each c = let e = rw (c.columns.ensures.described, c.columns.ensures.of_relation) at c.each.ensures in
     fails _ _ (range-test _ _ _ _ e ∙ c.if-not-each.true)
-
-pub reference-requires : goal.reference-requires
-reference-requires c = naming c.requires.standing
 
 pub returns-then-not-reference : goal.returns-then-not-reference
 unfolding update_tests

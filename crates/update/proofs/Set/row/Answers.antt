@@ -11,19 +11,16 @@ use Rattle.update.proofs.Set.row.Goals as goal
 pub loop-i-init : goal.loop-i-init
 loop-i-init c = (refl, refl, set-start _ _ _ _ _ _)
 
-pub put-requires : goal.put-requires
+pub put-requires-clause-cell_inside : goal.put-requires-clause-cell_inside
 unfolding pairs_of column_at
-put-requires c = let l = c.loop-i in
-    record {
-      lent = record { values = l.invariant.0 ∙ c.requires.lent.values; classes = l.invariant.1 ∙ c.requires.lent.classes };
-      cell_inside = inside-shown _ _ _ _ _ (record {
-        relation = c.args.self.now.in_level.relation;
-        level = c.args.self.now.in_level.level;
-        row = c.requires.row_exists;
-        least = (update-listing _ _ _ c.args.self.now.formed).least l.i c.loop-i-test.true;
-        column = (update-listing _ _ _ c.args.self.now.formed).most l.i c.loop-i-test.true;
-      });
-    }
+put-requires-clause-cell_inside c = let l = c.loop-i in
+    inside-shown _ _ _ _ _ (record {
+      relation = c.args.self.now.in_level.relation;
+      level = c.args.self.now.in_level.level;
+      row = c.requires.row_exists;
+      least = (update-listing _ _ _ c.args.self.now.formed).least l.i c.loop-i-test.true;
+      column = (update-listing _ _ _ c.args.self.now.formed).most l.i c.loop-i-test.true;
+    })
 
 pub loop-i-preserved : goal.loop-i-preserved
 unfolding pairs_of column_at second_at

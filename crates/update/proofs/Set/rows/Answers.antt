@@ -1,7 +1,6 @@
 use mathlib.Core.Path.{refl, ap, ◌∙◌}
-use native.Mathlib.Omega.{arith}
 use lib.ListN.{length}
-use Rattle.above.proofs.Turns.{rows_start, rows_end}
+use Rattle.above.proofs.Turns.{rows_start}
 use Rattle.chosen.proofs.Choosing.{more-chosen, more-unchosen}
 use Rattle.update.proofs.Set.rows.Goals as goal
 use Rattle.update.proofs.Set.rows.Goals.{then-chosen-row, else-chosen-row}
@@ -10,12 +9,6 @@ use Rattle.update.proofs.Set.rows.Goals.{then-chosen-row, else-chosen-row}
 
 pub loop-row-init : goal.loop-row-init
 loop-row-init c = (refl, refl, rows_start _ _ _ _ _)
-
-pub row-requires : goal.row-requires
-row-requires c = let l = c.loop-row in record {
-  lent = record { values = l.invariant.0 ∙ c.requires.values; classes = l.invariant.1 ∙ c.requires.classes };
-  row_exists = omega (arith, c.args.self.now.table.part.laid.rows, c.loop-row-test.true);
-}
 
 pub loop-row-preserved : goal.loop-row-preserved
 loop-row-preserved c = let l = c.loop-row in
@@ -31,6 +24,3 @@ loop-row-preserved c = let l = c.loop-row in
         more-unchosen _ _ _ _ _ _ l.row _ _ _ _ l.invariant.2 w.values-is w.classes-is w.if-chosen-row.false,
       )
     ]
-
-pub returns : goal.returns
-returns c = rows_end _ _ _ _ _ _ _ c.loop-row.invariant.2 (omega (arith, c.args.self.now.table.part.laid.rows, c.loop-row.auto, c.loop-row-test.false))

@@ -1,5 +1,4 @@
 use native.Mathlib.Omega.{arith}
-use Rattle.cells.proofs.Counts.{sound-says}
 use Rattle.change.proofs.Pairs.{listed-none, listed-some, pair-there}
 use Rattle.uplevel.proofs.Borrowing.{from-seen, raised-key, raised-unlisted, raised-listed}
 use Rattle.uplevel.proofs.made.borrow.Goals as goal

@@ -1,10 +1,6 @@
-use Prim.Native.Nat.{◌≤◌}
-use mathlib.Core.Path.{refl}
 use native.Mathlib.Omega.{arith}
 use Rattle.bounded.proofs.Reflection.{is_true}
 use Rattle.model.proofs.Sound.{column-r}
-use Rattle.theory.proofs.Fine.{value_of, class_of}
-use Rattle.change.proofs.Numbers.{filled_none, filled_more, filled-end}
 use Rattle.uplevel.proofs.made.compose.Goals as goal
 
 -- The invariant: the columns that were passed have their values and their classes.

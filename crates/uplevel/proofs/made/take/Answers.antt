@@ -1,8 +1,8 @@
 use native.Mathlib.Omega.{arith}
 use Rattle.bounded.proofs.Reflection.{of-true}
 use Rattle.model.proofs.Sound.{column-r}
-use Rattle.cells.proofs.Counts.{in-level, sound-says}
-use Rattle.change.proofs.Known.{own-over, lent}
+use Rattle.cells.proofs.Counts.{in-level}
+use Rattle.change.proofs.Known.{own-over}
 use Rattle.uplevel.proofs.Entities.{level-few}
 use Rattle.uplevel.proofs.Borrowing.{taken-strayed, taken-lent}
 use Rattle.uplevel.proofs.made.take.Goals as goal

@@ -1,6 +1,5 @@
 use mathlib.Core.Path.{sym, ◌∙◌}
 use Rattle.cells.proofs.Counts.{in-level}
-use Rattle.change.proofs.Known.{lent}
 use Rattle.uplevel.proofs.Entities.{level-few, based-unseen, based-seen}
 use Rattle.uplevel.proofs.meant.based.Goals as goal
 

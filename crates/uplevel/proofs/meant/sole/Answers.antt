@@ -1,6 +1,4 @@
 use mathlib.Core.Path.{sym, ◌∙◌}
-use native.Mathlib.Omega.{arith}
-use Rattle.cells.proofs.Counts.{sound-says}
 use Rattle.uplevel.proofs.Sole.{sole-start, sole-same, sole-more, sole-several, sole-end}
 use Rattle.uplevel.proofs.Upfaults.{sole-many, sole-answer}
 use Rattle.uplevel.proofs.meant.sole.Goals as goal

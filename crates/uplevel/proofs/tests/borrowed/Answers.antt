@@ -3,7 +3,7 @@ use Rattle.model.proofs.Sound.{column-r}
 use mathlib.Core.Path.{◌∙◌}
 use native.Mathlib.Omega.{arith}
 use Rattle.cells.proofs.Counts.{relation-few, relation-is, foreign-is, in-level}
-use Rattle.change.proofs.Known.{lent, naming, own-over}
+use Rattle.change.proofs.Known.{own-over}
 use Rattle.change.proofs.Pairs.{pair-there}
 use Rattle.uplevel.proofs.Entities.{level-few}
 use Rattle.uplevel.proofs.Borrowing.{from-seen, borrows-unreferring, borrows-unlisted, borrows-listed}

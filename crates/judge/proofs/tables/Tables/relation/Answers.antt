@@ -1,8 +1,5 @@
-use Rattle.judge.proofs.Passes.{laid-ready, laid-named, laid-refers, laid-relation}
+use Rattle.judge.proofs.Passes.{laid-ready, laid-refers, laid-relation}
 use Rattle.judge.proofs.tables.Tables.relation.Goals as goal
-
-pub laid-target-requires : goal.laid-target-requires
-laid-target-requires c = laid-named _ _ _ _ _ c.args.self.now.laid _ c.requires c.laid-area.ensures c.from-refers.ensures
 
 pub invariant_of-levels : goal.invariant_of-levels
 invariant_of-levels c = let L = c.args.self.now.laid in

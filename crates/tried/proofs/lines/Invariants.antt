@@ -1,9 +1,0 @@
--- No place behind the end was reached.
-use Rattle.std.proofs.Common.{◌-◌, ◌≤◌, length}
-use Rattle.tried.proofs.lines.Given as goal
-
-abbrev pub invariant-loop-at : goal.invariant-loop-at
-invariant-loop-at g l = l.at ≤ length l.bytes
-
-abbrev pub decreases-loop-at : goal.decreases-loop-at
-decreases-loop-at g l = length l.bytes - l.at
