@@ -41,7 +41,7 @@ impl Columns {
         self.levels.over(high, level) && self.levels.over(level, low)
     }
 
-    // The class of a column's own null at a level.
+    // The class of a column's own null at a level; where the column doesn't take the level, 255, which the tables of 01 hold for no class.
     #[tactic(auto, unfolding(model::specs::Tables::own_null))]
     pub fn null(self, column: usize, level: u8) -> u8
         ensures { result ≡ (own_null self.levels.description self.relation column level).class }

@@ -60,7 +60,7 @@ fn line(description: Description, order: [[bool; 16]; 16], constant: u32) -> [bo
     order.get(constant as usize).copied().unwrap_or([false; 16])
 }
 
-// The rows of a level that are in use.
+// The rows of a level that are in use; 64, the most that a relation has, since memory is fixed.
 fn used(values: &[u32], part: Part, level: usize) -> [bool; 64]
     requires sized { Sized part.description (length values.now) }
     requires in_level { InLevel part.description part.relation level }
