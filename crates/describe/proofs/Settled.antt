@@ -2,14 +2,10 @@
 -- Assumes nothing.
 use mathlib.Core.Path.{sym, ◌∙◌}
 use Rattle.level.proofs.Settled.{Settled}
-use Rattle.describe.proofs.wide.Reads as wide
 use Rattle.describe.proofs.size.Reads as size
 use Rattle.describe.proofs.total.Reads as total
 use Rattle.describe.proofs.ordered.Reads as ordered
 use Rattle.describe.proofs.sound.Reads as sound
-
-pub wide-settled : Settled wide.Post
-wide-settled κs a x y e f p q = p ∙ sym q
 
 pub size-settled : Settled size.Post
 size-settled κs a x y e f p q = p.0 ∙ sym q.0

@@ -11,13 +11,6 @@ ghost use Rattle.describe.specs.Facts.{Described, ranges_sound};
 
 use model::Description;
 
-// A number of a description as an index, by the name that `keys` and `judge` call it.
-pub fn wide(x: u16) -> usize
-    ensures { result ≡ x }
-{
-    x as usize
-}
-
 // `n` is from `low` to `high`.
 #[tactic(auto, using(std::proofs::lemmas::Bool::Decides::nat_tests), unfolding(model::specs::Description::between))]
 fn between(low: u16, high: u16, n: u16) -> bool
