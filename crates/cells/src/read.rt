@@ -8,7 +8,7 @@ ghost use Rattle.cells.specs.Changed.{value_at, class_at};
 use crate::layout::Part;
 
 impl Part {
-    // The value of a cell.
+    // The value of a cell. One generic function under this one and the next would be no plainer than the line that each holds.
     pub fn value_at(self, values: &[u32], level: usize, row: usize, column: usize) -> u32
         requires sized { Sized self.description (length values.now) }
         requires cell_inside { inside self.description self.relation level row column ≡ true }

@@ -9,7 +9,7 @@ ghost use Rattle.cells.specs.Stored.{CellBecomes, ValueBecomes, RowBecomes};
 use crate::layout::Part;
 
 impl Part {
-    // A cell is stored.
+    // A cell is stored. The two buffers are parameters of their own, as `register::run` is lent them.
     pub fn put(
         self,
         values: &mut [u32],

@@ -35,7 +35,7 @@ impl Area {
     }
 }
 
-// Where row `i` of a level starts. It is no method, since `tests/contracts` knows by its path what another crate calls.
+// Where row `i` of a level starts.
 pub fn at(area: Area, level: usize, i: usize) -> usize
     requires { (area.start + (level * area.rows + i) * area.cols ≤ 8192) × (0 < area.cols) }
     ensures { result ≡ area.start + (level * area.rows + i) * area.cols }

@@ -27,7 +27,7 @@ fn about(levels: Levels, relation: usize) -> Table
     Table { part, order }
 }
 
-// A statement that is well formed is carried out.
+// A statement that is well formed is carried out. The buffers are parameters of their own, as `run` is lent them.
 fn carry(
     values: &mut [u32],
     classes: &mut [u8],

@@ -150,7 +150,7 @@ fn own(classes: &[u8], owners: &mut [u8], part: Part, level: usize, row: usize, 
     owners[at.owners + last] = level as u8;
 }
 
-// A row; where the next goes.
+// A row; where the next goes. The four buffers are parameters of their own, as `register::run` is lent them.
 fn put(
     values: &[u32],
     classes: &[u8],
