@@ -5,7 +5,7 @@ ghost use Rattle.asked.specs.Facts.{Found};
 
 use crate::entries;
 
-// What is asked of each pair.
+// What is asked of each pair. No closure says it, since contracts name each rule by its definition (`rule_of`).
 #[derive(Clone, Copy)]
 pub enum Rule {
     // the column exists

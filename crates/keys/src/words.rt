@@ -20,7 +20,7 @@ fn with(word: u16, b: usize, on: bool) -> u16
     if on { word | (1 << b) } else { word }
 }
 
-// The levels that level `a` dominates, or, `turned`, is dominated by.
+// The levels that level `a` dominates, or, `turned`, is dominated by. A closure for the entry that is read would be no plainer than the flag.
 fn word(order: [[bool; 16]; 16], turned: bool, a: usize) -> u16
     requires { a < 16 }
     ensures { Word (pair_of order turned a) 16 result }

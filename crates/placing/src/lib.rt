@@ -63,7 +63,7 @@ fn news(bytes: &[u8], columns: usize) -> [u32; 9]
     news
 }
 
-// Its classes, by column.
+// Its classes, by column. One function under both would take how a number is read as a parameter, and be no plainer.
 fn owners(bytes: &[u8], columns: usize) -> [u8; 9]
     requires columns_bound { columns ≤ 8 }
     requires classes_small { small_classes columns bytes.now ≡ true }

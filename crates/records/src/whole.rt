@@ -27,7 +27,8 @@ fn follows(last: Option<u16>, kind: u16) -> bool
     }
 }
 
-// The kind of a record that is whole and in order, none of any other.
+// The kind of a record that is whole and in order, none of any other. It stays a number: an enum would be narrower than what is asked here, of any
+// record and after any.
 #[tactic(auto, unfolding(crate::specs::Record::kind_after))]
 pub fn kind(bytes: &[u8], last: Option<u16>) -> Option<u16>
     ensures { result ≡ kind_after last bytes.now }

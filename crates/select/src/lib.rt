@@ -137,7 +137,7 @@ fn copy(values: &[u32], shown: &mut [u32], part: Part, level: usize, row: usize,
     }
 }
 
-// A row's classes, then its TC.
+// A row's classes, then its TC. One function for both buffers would take the buffers' readers as parameters, and be no plainer.
 fn own(classes: &[u8], owners: &mut [u8], part: Part, level: usize, row: usize, at: At)
     requires sized { Sized part.description (length classes.now) × InRow part.description part.relation level row }
     requires level_bound { (level < 16) × (at.owners + column_count part.description part.relation < length owners.old) }
