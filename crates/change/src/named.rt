@@ -1,4 +1,4 @@
-// The rows that references name. Key 0 is null, and foreign column 0 says that there is no reference: both come so over the C interface.
+// The rows that references name. Key 0 is null, and foreign column 0 says that there is no reference: the call has both so (01).
 ghost use Rattle.std.specs.Prelude.{◌≡◌, true, ◌≢◌, List, ℕ, length};
 ghost use Rattle.model.specs.Description.{is_column, foreign_of};
 ghost use Rattle.model.specs.Tables.{rows_of};

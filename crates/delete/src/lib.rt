@@ -25,7 +25,7 @@ struct Rows {
 }
 
 impl Rows {
-    // Whether the row with a key is chosen. Key 0 is null over the C interface, and names no row.
+    // Whether the row with a key is chosen. Key 0 is null (01), and names no row.
     fn names(&self, values: &[u32], key: u32) -> bool
         requires { Sized self.now.table.part.description (length values.now) }
         ensures { result ≡ names_chosen self.now.table.part.description values.now self.now.chosen self.now.table.part.relation self.now.level key }

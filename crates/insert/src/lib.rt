@@ -39,7 +39,7 @@ fn class(list: &[u32], columns: Columns, column: usize, level: u8) -> u8
     }
 }
 
-// The values of the new row, by column. Its classes stand beside them, as in the two buffers that come over the C interface.
+// The values of the new row, by column. Its classes stand beside them, as in the two buffers that the call lends.
 fn news(list: &[u32], columns: usize) -> [u32; 9]
     requires { columns ≤ 8 }
     ensures { Filled columns (value_listed list.now) result }
