@@ -16,8 +16,6 @@ use Rattle.std.specs.Simd.{first_chunks}
 use Rattle.bounded.specs.Bounded.{all_below}
 use Rattle.bounded.proofs.Cases.{cases, clash, and-false-right}
 use Rattle.bounded.proofs.Reflection.{of-true, bool-r, and_r, all-r, leb-r}
-use Rattle.level.specs.Order.{order_of}
-use Rattle.level.proofs.Fill.{length-up_to}
 use Rattle.level.proofs.Levels.{order-laws}
 use Rattle.model.specs.declared.Description.{Description}
 use Rattle.model.specs.Description.{between, is_column, column_count, over}
@@ -142,13 +140,9 @@ module _ (d : Description) (order : List (List Bool)) (o : Ordered d order) wher
   outside : (a b : ℕ) → (a < 16 → b < 16 → ⊥) → over d a b ≡ false
   outside a b n = sym (over-entry d order o a b) ∙ rw o.order_is ((order-laws d.labels d.levels).outside a b n)
 
-  wide : length order ≡ 16
-  unfolding order_of
-  wide = rw o.order_is (length-up_to 16 _)
-
   -- a row of the order, or none where it is no level
-  pub line-at : (a : ℕ) → Line d a (get_or order a (replicate 16 false))
-  line-at a = cases (ltb a 16) (λ t. some (ltb-true a 16 t)) (λ t. none (ltb-false a 16 t))
+  pub line-at : length order ≡ 16 → (a : ℕ) → Line d a (get_or order a (replicate 16 false))
+  line-at wide a = cases (ltb a 16) (λ t. some (ltb-true a 16 t)) (λ t. none (ltb-false a 16 t))
     where
       past : (line : List Bool) (b : ℕ) → length line ≡ 16 → 16 ≤ b → get_or line b false ≡ over d a b
       past line b e k = get_or-eq_default line false {n = b} (omega arith) ∙ sym (outside a b (λ p q. omega arith))
