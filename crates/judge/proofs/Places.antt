@@ -136,4 +136,4 @@ same_class v w c = cases (eqb v w) (λ t. rw (t, eq-eqb c c refl)) (λ t. rw t)
 -- ---- the cache
 module _ (d : Description) (U : Tables) (a : Area) (v c : ℕ) (few : d.levels ≤ 16) where
   pub known-none : Known d U a v c (replicate 16 None)
-  known-none = record { size = length-replicate {A = Option (Option ℕ)} 16 None; right = λ e g. inl (get_or-replicate {A = Option (Option ℕ)} 16 e None None (lt_of_lt_of_le g few)) }
+  known-none = record { size = length-replicate {A = Option ℕ} 16 None; right = λ e g. inl (get_or-replicate {A = Option ℕ} 16 e None None (lt_of_lt_of_le g few)) }

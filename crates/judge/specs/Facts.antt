@@ -111,6 +111,6 @@ abbrev pub right_reference : Description → List ℕ → List ℕ → Area → 
 right_reference d vs cs a l i = reference_right d (rows_in d vs cs) a.relation l (rows_in d vs cs a.relation l i (foreign_of d a.relation))
 
 -- what a row's cache holds for each level: nothing, or where the entity's row there starts
-pub record Known (d : Description) (T : Tables) (a : Area) (v c : ℕ) (cache : List (Option (Option ℕ))) : Type 0 where
+pub record Known (d : Description) (T : Tables) (a : Area) (v c : ℕ) (cache : List (Option ℕ)) : Type 0 where
   pub size : length cache ≡ 16
-  pub right : (e : ℕ) → e < d.levels → (get_or cache e None ≡ None) ⊎ (get_or cache e None ≡ Some (lender_of T a v c e))
+  pub right : (e : ℕ) → e < d.levels → (get_or cache e None ≡ None) ⊎ (get_or cache e None ≡ lender_of T a v c e)

@@ -58,7 +58,7 @@ abbrev pub lent_at : KeyedRow → ℕ → ℕ → Cell
 lent_at e k l = lends (at (description_of e.row.relation.now) (rows_of e.row.relation.now) e.row.relation.now.area.relation l e.key) (cell e.key e.class) (suc k) l
 
 -- its cache is right
-abbrev pub Knows : KeyedRow → List (Option (Option ℕ)) → Type 0
+abbrev pub Knows : KeyedRow → List (Option ℕ) → Type 0
 Knows e cache = Known (description_of e.row.relation.now) (rows_of e.row.relation.now) e.row.relation.now.area e.key e.class cache
 
 -- the set of the classes that fit in column k + 1

@@ -26,17 +26,17 @@ impl KeyedRow<'_> {
         Some(p as u16)
     }
 
-    // The same, looked up once for a row and level.
-    fn cached(&self, cache: &mut [Option<Option<u16>>; 16], level: usize) -> Option<u16>
+    // The same, found once for a row and level.
+    fn cached(&self, cache: &mut [Option<u16>; 16], level: usize) -> Option<u16>
         requires level { level < (description_of self.now.row.relation.now).levels }
         requires known { Knows self.now cache.old }
         ensures { (result ≡ lender_at self.now level) × Knows self.now cache.new }
     {
         if let Some(known) = cache[level] {
-            return known;
+            return Some(known);
         }
         let p = self.lender(level);
-        cache[level] = Some(p);
+        cache[level] = p;
         p
     }
 
@@ -58,7 +58,7 @@ impl KeyedRow<'_> {
     }
 
     // Column k + 1 of a row with a key is right.
-    fn cell(&self, cache: &mut [Option<Option<u16>>; 16], k: usize, word: u16) -> bool
+    fn cell(&self, cache: &mut [Option<u16>; 16], k: usize, word: u16) -> bool
         requires column { k < self.now.row.relation.now.area.cols }
         requires fitting { FitsColumn self.now k word }
         requires known { Knows self.now cache.old }
