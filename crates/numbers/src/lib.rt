@@ -29,7 +29,7 @@ pub fn count(answer: Answer) -> u32
     answer.unwrap_or(0)
 }
 
-// The number of a verdict: 0 for legal. It stays beside `number`: one generic function under both would be no plainer than the line that it holds.
+// The number of a verdict: 0 for legal.
 #[tactic(auto, unfolding(model::specs::Numbers::verdict_number))]
 pub fn verdict(verdict: Verdict) -> u32
     ensures { result ≡ verdict_number verdict }

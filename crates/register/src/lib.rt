@@ -42,7 +42,7 @@ pub fn run(
                 values, classes, list, conditions, shown, owners, levels, statement,
             )
         }
-        // No `?`, which would leave the edit `run_other_number` no place for its other number.
+        // No `?`: the edit `run_other_number` has its other number in this arm, and the proof keeps its names.
         Err(fault) => Err(fault),
     }
 }

@@ -33,8 +33,8 @@ pub fn formed(list: &[u32], columns: Columns) -> bool
         && 0 < list.len()
 }
 
-// What SET lists, for rows of a table at the subject's level. The pairs lie flat, as the call lends them, and go by number, which is how
-// the model's `column_at` and `second_at` tell them, here as in `asked`.
+// What SET lists, for rows of a table at the subject's level. The pairs lie flat, as the call lends them, and go by number, as the model's
+// `column_at` and `second_at` have them.
 #[derive(Clone, Copy)]
 struct Set<'a> {
     list: &'a [u32],
