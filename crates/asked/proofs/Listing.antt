@@ -15,11 +15,11 @@ use Rattle.asked.specs.Facts.{Found, first_of}
 use Rattle.asked.proofs.Lists.{entry-at, all-entries, first-entry, once-entries}
 
 module _ (xs : List ℕ) where
-  column-of : (i : ℕ) → i < length xs / 2 → get_or (get_or (first_chunks 2 (length xs / 2) xs) i []) 0 0 ≡ column_at xs i
+  pub column-of : (i : ℕ) → i < length xs / 2 → get_or (get_or (first_chunks 2 (length xs / 2) xs) i []) 0 0 ≡ column_at xs i
   unfolding column_at
   column-of i h = entry-at 2 (length xs / 2) xs i 0 h (omega arith) (omega arith)
 
-  second-of : (i : ℕ) → i < length xs / 2 → get_or (get_or (first_chunks 2 (length xs / 2) xs) i []) 1 0 ≡ second_at xs i
+  pub second-of : (i : ℕ) → i < length xs / 2 → get_or (get_or (first_chunks 2 (length xs / 2) xs) i []) 1 0 ≡ second_at xs i
   unfolding second_at
   second-of i h = entry-at 2 (length xs / 2) xs i 1 h (omega arith) (omega arith)
 

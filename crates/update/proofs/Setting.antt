@@ -1,11 +1,11 @@
 -- What is listed, pair after pair: by column, and in a row.
 -- Assumes nothing.
 use Rattle.std.specs.Prelude.{if◌then◌else◌}
-use Prim.Native.Nat.{ℕ, ◌+◌, ◌%◌, ◌<◌}
+use Prim.Native.Nat.{ℕ, ◌+◌, ◌/◌, ◌%◌, ◌<◌}
 use mathlib.Core.Path.{◌≡◌, refl, sym, ap, ◌∙◌, fun_ext}
 use mathlib.Core.Bool.{Bool, true, false, not, ◌&&◌}
 use mathlib.Core.Logic.{◌≢◌}
-use mathlib.Core.List.{List}
+use mathlib.Core.List.{List, []}
 use mathlib.Core.Option.{none, some}
 use native.Mathlib.Numerals.{add-one}
 use native.Mathlib.Nat.{le_antisymm}
@@ -15,6 +15,7 @@ use lib.ListN.{length, get_or, set, replicate, length-set, get_or-replicate, get
 use lib.Seq.{get_or-set_same, get_or-set_other}
 use borrow.Author.Tests.{eq-eqb, ne_eqb, lt-ltb, le-ltb, ltb-true, ltb-false, eqb-true, eqb-false}
 use Rattle.std.specs.Prelude.{is_none}
+use Rattle.std.specs.Simd.{first_chunks}
 use Rattle.bounded.specs.Bounded.{first_below, some_below}
 use Rattle.bounded.proofs.Any.{any-first}
 use Rattle.bounded.proofs.Cases.{cases}
@@ -31,6 +32,7 @@ use Rattle.cells.proofs.Written.{row_same}
 use Rattle.cells.proofs.Changes.{level-path, change-same, change-on}
 use Rattle.asked.specs.declared.pairs.Rule.TheVariants as Rules
 use Rattle.asked.specs.Facts.{rule_of}
+use Rattle.asked.proofs.Listing.{column-of, second-of}
 use Rattle.above.specs.declared.plan.Change.{Change}
 use Rattle.above.specs.declared.plan.Change.TheVariants as Changes
 use Rattle.chosen.specs.Choosing.{Listing, ByColumn, change_listed}
@@ -101,6 +103,16 @@ columns-more list f n changes L h N =
           (λ t. let o = eqb-false _ _ t in
           get_or-set_other changes (column_at list n) k (f (second_at list n)) Changes.Keep (λ e. o (sym e)) ∙ N.right k ∙ sym (among-other list k f Changes.Keep n o));
     }
+
+-- the pairs side by side
+module _ (list : List ℕ) {ys : List (List ℕ)} (e : ys ≡ first_chunks 2 (length list / 2) list) where
+  pub pair-column : (i : ℕ) → i < pairs list → get_or (get_or ys i []) 0 0 ≡ column_at list i
+  unfolding pairs
+  pair-column i h = rw e (column-of list i h)
+
+  pub pair-second : (i : ℕ) → i < pairs list → get_or (get_or ys i []) 1 0 ≡ second_at list i
+  unfolding pairs
+  pair-second i h = rw e (second-of list i h)
 
 -- what is listed for a column, from the first pair that has it
 module _ (list : List ℕ) (k : ℕ) where

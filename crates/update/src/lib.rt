@@ -33,8 +33,7 @@ pub fn formed(list: &[u32], columns: Columns) -> bool
         && 0 < list.len()
 }
 
-// What SET lists, for rows of a table at the subject's level. The pairs lie flat, as the call lends them, and go by number, as the model's
-// `column_at` and `second_at` have them.
+// What SET lists, for rows of a table at the subject's level.
 #[derive(Clone, Copy)]
 struct Set<'a> {
     list: &'a [u32],
@@ -49,13 +48,11 @@ impl Set<'_> {
     fn changes(&self) -> [Change; 9]
         ensures { ByColumn (change_listed self.now.level self.now.list.now) result }
     {
+        let (pairs, _) = self.list.as_chunks::<2>();
+        let class = self.level as u8;
         let mut changes = [Change::Keep; 9];
-        for i in 0..self.list.len() / 2 {
-            let column = self.list[2 * i] as usize;
-            changes[column] = Change::Take {
-                value: self.list[2 * i + 1],
-                class: self.level as u8,
-            };
+        for &[column, value] in pairs {
+            changes[column as usize] = Change::Take { value, class };
         }
         changes
     }
@@ -68,9 +65,9 @@ impl Set<'_> {
     {
         let part = self.table.part;
         let level = self.level;
-        for i in 0..self.list.len() / 2 {
-            let column = self.list[2 * i] as usize;
-            let value = self.list[2 * i + 1];
+        let (pairs, _) = self.list.as_chunks::<2>();
+        for &[column, value] in pairs {
+            let column = column as usize;
             part.put(values, classes, level, row, column, value, level as u8);
         }
     }

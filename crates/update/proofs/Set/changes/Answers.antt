@@ -1,27 +1,31 @@
+use Prim.Native.Nat.{◌<◌}
 use native.Mathlib.Omega.{arith}
 use Rattle.above.specs.declared.plan.Change.TheVariants as Changes
-use Rattle.model.specs.Listed.{pairs as pairs_of, column_at, second_at}
-use Rattle.update.proofs.Setting.{columns-none, columns-more, changes-end}
+use Rattle.model.specs.Listed.{pairs as pairs_of}
+use Rattle.update.proofs.Setting.{columns-none, columns-more, changes-end, pair-column, pair-second}
 use Rattle.update.proofs.Updated.{listing-few, update-listing}
 use Rattle.update.proofs.Set.changes.Goals as goal
 
 -- The invariant: the pairs that were passed have their cell.
 
-pub loop-i-init : goal.loop-i-init
-loop-i-init c = columns-none _ _
+pub loop-column-init : goal.loop-column-init
+loop-column-init c = columns-none _ _
 
 pub bounds-changes-column : goal.bounds-changes-column
-unfolding pairs_of column_at
+unfolding pairs_of
 bounds-changes-column c = let t = c.args.self.now.table.related in
-    let m = (update-listing _ _ _ c.args.self.now.formed).most c.loop-i.i c.loop-i-test.true in
-    omega (arith, m, t.narrow, t.is)
+    let h : c.loop-column.column-index < pairs_of c.args.self.now.list.now = omega (arith, c.as_chunks.ensures.front_len, c.loop-column-test.true) in
+    let m = (update-listing _ _ _ c.args.self.now.formed).most c.loop-column.column-index h in
+    omega (arith, pair-column _ c.as_chunks.ensures.front _ h, m, t.narrow, t.is)
 
-pub loop-i-preserved : goal.loop-i-preserved
-unfolding pairs_of column_at second_at
-loop-i-preserved c = let l = c.loop-i in
+pub loop-column-preserved : goal.loop-column-preserved
+unfolding pairs_of
+loop-column-preserved c = let l = c.loop-column in
     let t = c.args.self.now.table.related in
-    columns-more _ (λ v. Changes.Take v c.args.self.now.level) l.i _ (listing-few _ _ (omega (arith, t.narrow, t.is)) (update-listing _ _ _ c.args.self.now.formed)) c.loop-i-test.true l.invariant
+    let h : l.column-index < pairs_of c.args.self.now.list.now = omega (arith, c.as_chunks.ensures.front_len, c.loop-column-test.true) in
+    rw (pair-column _ c.as_chunks.ensures.front _ h, pair-second _ c.as_chunks.ensures.front _ h)
+    (columns-more _ (λ v. Changes.Take v c.args.self.now.level) l.column-index _ (listing-few _ _ (omega (arith, t.narrow, t.is)) (update-listing _ _ _ c.args.self.now.formed)) h l.invariant)
 
 pub returns : goal.returns
 unfolding pairs_of
-returns c = let l = c.loop-i in changes-end _ _ l.i _ (omega (arith, l.auto, c.loop-i-test.false)) l.invariant
+returns c = let l = c.loop-column in changes-end _ _ l.column-index _ (omega (arith, l.auto.column-index-end, c.as_chunks.ensures.front_len, c.loop-column-test.false)) l.invariant

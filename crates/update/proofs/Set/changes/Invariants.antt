@@ -3,5 +3,5 @@ use Rattle.chosen.specs.Choosing.{ByColumn}
 use Rattle.update.proofs.Setting.{among}
 use Rattle.update.proofs.Set.changes.Given as goal
 
-abbrev pub invariant-loop-i : goal.invariant-loop-i
-invariant-loop-i l = ByColumn (among l.i l.self.list.now (λ v. Changes.Take v l.self.level) Changes.Keep) l.changes
+abbrev pub invariant-loop-column : goal.invariant-loop-column
+invariant-loop-column l = ByColumn (among l.column-index l.self.list.now (λ v. Changes.Take v l.self.level) Changes.Keep) l.changes
