@@ -12,13 +12,13 @@ fn told(answer: Answer) -> u64 {
     u64::from(numbers::count(answer)) * 100 + u64::from(numbers::number(answer))
 }
 
-// Judges the same tables some times over; the last verdict's number, or 4, which no verdict has.
+// Judges the same tables some times over; the last verdict's number, or 4 where there is none.
 fn judged(description: Description, tables: &Cells<'_>, times: u32) -> u64 {
-    let mut last = 4;
+    let mut last = None;
     for _ in 0..times {
-        last = numbers::verdict(register::judge(description, tables.values, tables.classes));
+        last = Some(register::judge(description, tables.values, tables.classes));
     }
-    u64::from(last)
+    last.map_or(4, |verdict| u64::from(numbers::verdict(verdict)))
 }
 
 // The same statement some times over, each time on the tables as they stand; what the last was answered.
