@@ -30,10 +30,12 @@ impl<'a> Kept<'a> {
         let most = room.len();
         let stepped = step(record, self.values, self.classes, room, self.beside, number);
         writer.waiting += stepped.printed.min(most);
-        let Some(beside) = stepped.kept else {
-            return false;
-        };
-        self.beside = beside;
-        true
+        match stepped.kept {
+            Ok(beside) => {
+                self.beside = beside;
+                true
+            }
+            Err(_) => false,
+        }
     }
 }

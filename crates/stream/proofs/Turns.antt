@@ -37,7 +37,7 @@ pub took-as : {t u : Turn} {text values classes text' : List ℕ} {r : Stepped} 
 took-as p x = rw p x
 
 -- nothing is printed
-pub quiet : {t : Turn} (kind : ℕ) (d : Description) (values classes text : List ℕ) {r : Stepped} → r ≡ taken_of 0 kind d → t ≡ silent (holds (Some kind) d values classes) → Took t text values classes text r
+pub quiet : {t : Turn} (kind : ℕ) (d : Description) (values classes text : List ℕ) {r : Stepped} → r ≡ taken_of 0 (Some kind) d → t ≡ silent (holds (Some kind) d values classes) → Took t text values classes text r
 unfolding silent written
 quiet kind d values classes text e p =
     rw (e, p) (record { kept-is = refl; room-is = refl; text-is = record { is = refl; next-is = refl } })
@@ -136,7 +136,7 @@ module _ (last : Option ℕ) (d : Description) (values classes : List ℕ) (kind
   answered-took : {o : Outcome} {values' classes' shown' owners' text text' : List ℕ} {answer : Answer} {printed : ℕ}
       → outcome answer values' classes' shown' owners' ≡ o
       → Wrote 0 (answer_text statement.what answer (column_count d statement.relation) shown' owners') text text' printed
-      → Took (answered (holds last d values classes) kind statement o) text (values' ++ drop (extent_of d) values) (classes' ++ drop (extent_of d) classes) text' (taken_of printed kind d)
+      → Took (answered (holds last d values classes) kind statement o) text (values' ++ drop (extent_of d) values) (classes' ++ drop (extent_of d) classes) text' (taken_of printed (Some kind) d)
   unfolding answered keeping
   answered-took p w = rw (← p) (record { kept-is = refl; room-is = refl; text-is = w })
 
@@ -145,7 +145,7 @@ module _ (last : Option ℕ) (d : Description) (values classes : List ℕ) (kind
       → sound d ≡ false
       → outcome answer values' classes' shown' owners' ≡ run d (lending (holding (take a values) (take b classes))) q
       → Wrote 0 (answer_text statement.what answer (column_count d statement.relation) shown' owners') text text' printed
-      → Took (answered (holds last d values classes) kind statement (run d (lent (holds last d values classes)) q)) text (values' ++ drop a values) (classes' ++ drop b classes) text' (taken_of printed kind d)
+      → Took (answered (holds last d values classes) kind statement (run d (lent (holds last d values classes)) q)) text (values' ++ drop a values) (classes' ++ drop b classes) text' (taken_of printed (Some kind) d)
   unfolding answered keeping lent
   answered-unsound q a b {printed} {text = text} {text' = text'} s r w =
       let k = r ∙ run-refused d _ q (unsound-refused d _ q s) in
@@ -164,7 +164,7 @@ module _ (last : Option ℕ) (d : Description) (values classes : List ℕ) (kind
       → outcome answer values' classes' shown' owners' ≡ run d (lending (holding (take a values) (take b classes))) q
       → columns ≡ column_count d statement.relation
       → Wrote 0 (answer_text statement.what answer columns shown' owners') text text' printed
-      → Took (answered (holds last d values classes) kind statement (run d (lent (holds last d values classes)) q)) text (values' ++ drop a values) (classes' ++ drop b classes) text' (taken_of printed kind d)
+      → Took (answered (holds last d values classes) kind statement (run d (lent (holds last d values classes)) q)) text (values' ++ drop a values) (classes' ++ drop b classes) text' (taken_of printed (Some kind) d)
   unfolding lent
   answer-took q {extent} {a} {b} e p s r c w =
       cases (sound d)

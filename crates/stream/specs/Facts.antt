@@ -1,6 +1,6 @@
 -- What the functions of a step promise.
 -- Assumes nothing: these are definitions and statements.
-use Rattle.std.specs.Prelude.{ℕ, ◌≡◌, List, Option, Some, None, replicate, if◌then◌else◌}
+use Rattle.std.specs.Prelude.{ℕ, ◌≡◌, List, Option, Some, Result, Ok, Err, replicate, if◌then◌else◌}
 use Rattle.model.specs.declared.Description.{Description}
 use Rattle.model.specs.declared.Statement.{Statement}
 use Rattle.model.specs.Buffers.{holding}
@@ -10,18 +10,20 @@ use Rattle.lines.specs.Written.{Wrote}
 use Rattle.register.specs.Calls.{request, Slice, Shared, entering, leaving, reading}
 use Rattle.stream.specs.declared.Kept.{Kept}
 use Rattle.stream.specs.declared.Stepped.{Stepped}
-use Rattle.stream.specs.Step.{Held, Turn, lent, refuses, answered}
+use Rattle.stream.specs.Step.{Held, Turn, lent, answered}
 
 abbrev pub holds : Option ℕ → Description → List ℕ → List ℕ → Held
 holds last d values classes = record { last = last; description = d; room = lending (holding values classes) }
 
--- what a turn keeps for the next record, beside the room; nothing where no other is read
-abbrev pub kept_of : Turn → Option Kept
-kept_of t = if t.goes then Some (record { last = t.held.last; description = t.held.description }) else None
+-- what a turn keeps beside the room: for the next record, or where no other is read
+abbrev pub kept_of : Turn → Result Kept Kept
+kept_of t =
+    let kept : Kept = record { last = t.held.last; description = t.held.description } in
+    if t.goes then Ok kept else Err kept
 
--- a record of a kind has been taken
-abbrev pub taken_of : ℕ → ℕ → Description → Stepped
-taken_of printed kind d = record { printed = printed; kept = Some (record { last = Some kind; description = d }) }
+-- a record has been taken, and this is kept
+abbrev pub taken_of : ℕ → Option ℕ → Description → Stepped
+taken_of printed last d = record { printed = printed; kept = Ok (record { last = last; description = d }) }
 
 -- a record has left this turn: what is kept is in the answer and in the buffers for the tables, what is printed is in the text
 pub record Took (t : Turn) (text values' classes' text' : List ℕ) (r : Stepped) : Type 0 where
@@ -38,14 +40,10 @@ Turns turn kept values classes text r =
 abbrev pub TurnsAfter : (Held → Turn) → Description → Slice → Slice → Slice → Stepped → Type 0
 TurnsAfter turn d values classes text r = (last : Option ℕ) → Turns turn (record { last = last; description = d }) values classes text r
 
--- it has this turn whatever the last kind and the tables are, and leaves them
-abbrev pub TurnsAny : (Held → Turn) → Description → Slice → Stepped → Type 0
-TurnsAny turn d text r =
-    (last : Option ℕ) (values classes : List ℕ) → Took (turn (holds last d values classes)) (entering text) values classes (leaving text) r
-
--- it is refused whatever is kept, and leaves that
-abbrev pub RefusesAny : ℕ → Slice → Stepped → Type 0
-RefusesAny number text r = (d : Description) → TurnsAny (λ h. refuses h number) d text r
+-- it has this turn whatever the tables are, and leaves them
+abbrev pub TurnsAny : (Held → Turn) → Kept → Slice → Stepped → Type 0
+TurnsAny turn kept text r =
+    (values classes : List ℕ) → Took (turn (holds kept.last kept.description values classes)) (entering text) values classes (leaving text) r
 
 -- the turn of a statement with its lists: the register's answer
 abbrev pub answering : Statement → ℕ → Shared → Shared → Held → Turn
@@ -55,4 +53,4 @@ answering statement kind list conditions h =
 -- so much is printed in that turn, whatever the record's kind
 abbrev pub Answers : Statement → Shared → Shared → Description → Slice → Slice → Slice → ℕ → Type 0
 Answers statement list conditions d values classes text printed =
-    (kind : ℕ) → TurnsAfter (answering statement kind list conditions) d values classes text (taken_of printed kind d)
+    (kind : ℕ) → TurnsAfter (answering statement kind list conditions) d values classes text (taken_of printed (Some kind) d)

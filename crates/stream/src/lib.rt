@@ -4,8 +4,8 @@
 
 ghost use Rattle.std.specs.Prelude.{◌≡◌};
 ghost use Rattle.model.specs.Description.{column_count};
-ghost use Rattle.stream.specs.Step.{labels_turn, relation_turn, row_turn, statement_turn, step as step_of};
-ghost use Rattle.stream.specs.Facts.{Turns, TurnsAfter, TurnsAny, RefusesAny, Answers, taken_of};
+ghost use Rattle.stream.specs.Step.{refuses, labels_turn, relation_turn, row_turn, statement_turn, step as step_of};
+ghost use Rattle.stream.specs.Facts.{Turns, TurnsAny, Answers, taken_of};
 
 use model::{Description, Statement};
 use placing::place;
@@ -25,51 +25,48 @@ pub struct Kept {
 pub struct Stepped {
     // how many bytes are printed
     pub printed: usize,
-    // what is kept for the next record, none where the record is refused and no other is read
-    pub kept: Option<Kept>,
+    // what is kept for the next record, or as it was given where the record is refused and no other is read
+    pub kept: Result<Kept, Kept>,
 }
 
-// A record of a kind has been taken.
-fn taken(printed: usize, kind: u16, description: Description) -> Stepped
-    ensures { result ≡ taken_of printed kind description }
+// A record has been taken; `last` is what is kept of its kind.
+fn taken(printed: usize, last: Option<u16>, description: Description) -> Stepped
+    ensures { result ≡ taken_of printed last description }
 {
     Stepped {
         printed,
-        kept: Some(Kept {
-            last: Some(kind),
-            description,
-        }),
+        kept: Ok(Kept { last, description }),
     }
 }
 
 // The record is refused.
-fn refuse(text: &mut [u8], number: u64) -> Stepped
-    ensures { RefusesAny number text result }
+fn refuse(text: &mut [u8], kept: Kept, number: u64) -> Stepped
+    ensures { TurnsAny (λ h. refuses h number) kept text result }
 {
     Stepped {
         printed: lines::refusal(text, number),
-        kept: None,
+        kept: Err(kept),
     }
 }
 
 // A record of kind 1.
-fn labels(bytes: &[u8], text: &mut [u8], description: Description, number: u64) -> Stepped
-    ensures { TurnsAny (λ h. labels_turn h number bytes.now) description text result }
+fn labels(bytes: &[u8], text: &mut [u8], kept: Kept, number: u64) -> Stepped
+    ensures { TurnsAny (λ h. labels_turn h number bytes.now) kept text result }
 {
     if !descriptions::is_labels(bytes) {
-        return refuse(text, number);
+        return refuse(text, kept, number);
     }
-    taken(0, 1, descriptions::labels(bytes, description))
+    taken(0, Some(1), descriptions::labels(bytes, kept.description))
 }
 
 // A record of kind 2. One function for kinds 1 and 2 would take the test and the change as parameters, and be no plainer.
-fn relation(bytes: &[u8], text: &mut [u8], description: Description, number: u64) -> Stepped
-    ensures { TurnsAny (λ h. relation_turn h number bytes.now) description text result }
+fn relation(bytes: &[u8], text: &mut [u8], kept: Kept, number: u64) -> Stepped
+    ensures { TurnsAny (λ h. relation_turn h number bytes.now) kept text result }
 {
     if !descriptions::is_relation(bytes) {
-        return refuse(text, number);
+        return refuse(text, kept, number);
     }
-    taken(0, 2, descriptions::relation(bytes, description))
+    taken(0, Some(2), descriptions::relation(bytes, kept.description))
 }
 
 // A record of kind 3. Whether the description breaks a rule is left to `place`, which lays out the order: no row is placed then, whatever part of
@@ -79,14 +76,15 @@ fn row(
     values: &mut [u32],
     classes: &mut [u8],
     text: &mut [u8],
-    description: Description,
+    kept: Kept,
     number: u64,
 ) -> Stepped
-    ensures { TurnsAfter (λ h. row_turn h number bytes.now) description values classes text result }
+    ensures { Turns (λ h. row_turn h number bytes.now) kept values classes text result }
 {
+    let description = kept.description;
     let extent = describe::total(description);
     if values.len() < extent || classes.len() < extent {
-        return refuse(text, number);
+        return refuse(text, kept, number);
     }
     if !place(
         bytes,
@@ -94,9 +92,9 @@ fn row(
         &mut classes[..extent],
         description,
     ) {
-        return refuse(text, number);
+        return refuse(text, kept, number);
     }
-    taken(0, 3, description)
+    taken(0, Some(3), description)
 }
 
 // How many columns a relation has; none where it doesn't exist.
@@ -148,16 +146,17 @@ fn call(
     values: &mut [u32],
     classes: &mut [u8],
     text: &mut [u8],
-    description: Description,
+    kept: Kept,
     kind: u16,
     number: u64,
 ) -> Stepped
-    ensures { TurnsAfter (λ h. statement_turn h kind number bytes.now) description values classes text result }
+    ensures { Turns (λ h. statement_turn h kind number bytes.now) kept values classes text result }
 {
+    let description = kept.description;
     let mut list = [0u32; 512];
     let mut conditions = [0u32; 512];
     match statement(bytes, &mut list, &mut conditions, number) {
-        Err(place) => refuse(text, place),
+        Err(place) => refuse(text, kept, place),
         Ok(read) => {
             let printed = answer(
                 &list[..read.listed],
@@ -168,7 +167,7 @@ fn call(
                 description,
                 read.statement,
             );
-            taken(printed, kind, description)
+            taken(printed, Some(kind), description)
         }
     }
 }
@@ -184,12 +183,11 @@ pub fn step(
 ) -> Stepped
     ensures { Turns (λ h. step_of h number bytes.now) kept values classes text result }
 {
-    let description = kept.description;
     match records::whole::kind(bytes, kept.last) {
-        None => refuse(text, number),
-        Some(1) => labels(bytes, text, description, number),
-        Some(2) => relation(bytes, text, description, number),
-        Some(3) => row(bytes, values, classes, text, description, number),
-        Some(kind) => call(bytes, values, classes, text, description, kind, number),
+        None => refuse(text, kept, number),
+        Some(1) => labels(bytes, text, kept, number),
+        Some(2) => relation(bytes, text, kept, number),
+        Some(3) => row(bytes, values, classes, text, kept, number),
+        Some(kind) => call(bytes, values, classes, text, kept, kind, number),
     }
 }

@@ -24,7 +24,7 @@ slice_bounds-answer-end-in-Ok c = let h = holds c.statement.ensures c.in-Ok.is i
 
 pub returns-in-Err : goal.returns-in-Err
 returns-in-Err c = let e = refuses c.statement.ensures c.in-Err.is in
-    λ last. took-as (statement-refused last _ _ _ _ _ _ e.0) (rw (← e.1) (c.refuse.ensures _ last _ _))
+    took-as (statement-refused _ _ _ _ _ _ _ e.0) (rw (← e.1) (c.refuse.ensures _ _))
 
 pub returns-in-Ok : goal.returns-in-Ok
-returns-in-Ok c = λ last. took-as (statement-taken last _ _ _ _ _ _ (holds c.statement.ensures c.in-Ok.is)) (rw c.taken.ensures (c.answer-printed.ensures _ last))
+returns-in-Ok c = took-as (statement-taken _ _ _ _ _ _ _ (holds c.statement.ensures c.in-Ok.is)) (rw c.taken.ensures (c.answer-printed.ensures _ _))

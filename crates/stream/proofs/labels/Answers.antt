@@ -5,7 +5,7 @@ use Rattle.stream.proofs.labels.Goals as goal
 -- Refused by its length, or described.
 
 pub returns-then-not-is_labels : goal.returns-then-not-is_labels
-returns-then-not-is_labels c = λ last values classes. took-as (labels-refused last _ values classes _ _ (sym c.is_labels.ensures ∙ c.if-not-is_labels.true)) (c.refuse.ensures _ last values classes)
+returns-then-not-is_labels c = λ values classes. took-as (labels-refused _ _ values classes _ _ (sym c.is_labels.ensures ∙ c.if-not-is_labels.true)) (c.refuse.ensures values classes)
 
 pub returns : goal.returns
-returns c = λ last values classes. quiet _ _ values classes _ c.taken.ensures (labels-taken last _ values classes _ _ (sym c.is_labels.ensures ∙ c.if-not-is_labels.false) c.labels.ensures)
+returns c = λ values classes. quiet _ _ values classes _ c.taken.ensures (labels-taken _ _ values classes _ _ (sym c.is_labels.ensures ∙ c.if-not-is_labels.false) c.labels.ensures)

@@ -6,4 +6,4 @@ use Rattle.stream.proofs.refuse.Goals as goal
 
 pub returns : goal.returns
 unfolding refuses
-returns c = λ d last values classes. record { kept-is = refl; room-is = refl; text-is = c.refusal.ensures }
+returns c = λ values classes. record { kept-is = refl; room-is = refl; text-is = c.refusal.ensures }

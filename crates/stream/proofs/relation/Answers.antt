@@ -5,7 +5,7 @@ use Rattle.stream.proofs.relation.Goals as goal
 -- Refused by its length, or described.
 
 pub returns-then-not-is_relation : goal.returns-then-not-is_relation
-returns-then-not-is_relation c = λ last values classes. took-as (relation-refused last _ values classes _ _ (sym c.is_relation.ensures ∙ c.if-not-is_relation.true)) (c.refuse.ensures _ last values classes)
+returns-then-not-is_relation c = λ values classes. took-as (relation-refused _ _ values classes _ _ (sym c.is_relation.ensures ∙ c.if-not-is_relation.true)) (c.refuse.ensures values classes)
 
 pub returns : goal.returns
-returns c = λ last values classes. quiet _ _ values classes _ c.taken.ensures (relation-taken last _ values classes _ _ (sym c.is_relation.ensures ∙ c.if-not-is_relation.false) c.relation.ensures)
+returns c = λ values classes. quiet _ _ values classes _ c.taken.ensures (relation-taken _ _ values classes _ _ (sym c.is_relation.ensures ∙ c.if-not-is_relation.false) c.relation.ensures)
