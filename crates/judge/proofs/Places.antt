@@ -1,23 +1,27 @@
 -- Where a relation's rows and keys stand, and what the row of an entity at a level lends.
 -- Assumes nothing.
 use Rattle.std.specs.Prelude.{if◌then◌else◌, Option, Some, None}
+use Rattle.std.specs.Option.{is_some}
 use mathlib.Core.Path.{◌≡◌, refl, sym, ap, ◌∙◌}
-use mathlib.Core.Logic.{◌≢◌, inl}
+use mathlib.Core.Logic.{◌≢◌, inl, inr}
+use mathlib.Core.Bool.{Bool, true, false, not}
 use mathlib.Core.List.{List}
 use Prim.Native.Nat.{ℕ, suc, ◌+◌, ◌*◌, ◌≤◌, ◌<◌}
 use native.Mathlib.Nat.{mul-le-mul_right, lt_of_lt_of_le, add-zero}
 use native.Mathlib.Omega.{arith}
 use lib.Dec.{eqb, ltb}
-use lib.ListN.{get_or, replicate, length-replicate, get_or-replicate}
-use borrow.Author.Tests.{lt-ltb, le-ltb, ltb-true, ltb-false, eq-eqb, ne_eqb, eqb-true}
+use lib.ListN.{get_or, set, replicate, length-replicate, length-set, get_or-replicate}
+use lib.Seq.{get_or-set_same, get_or-set_other}
+use borrow.Author.Tests.{lt-ltb, le-ltb, ltb-true, ltb-false, eq-eqb, ne_eqb, eqb-true, eqb-false}
 use Rattle.bounded.specs.Bounded.{first_below}
-use Rattle.bounded.proofs.Cases.{cases}
+use Rattle.bounded.proofs.Cases.{cases, clash}
 use Rattle.bounded.proofs.First.{first_holds, first_cong}
 use Rattle.model.specs.declared.Description.{Description}
 use Rattle.model.specs.Tables.{Cell, Tables, cell, norow, same, place, seek, at, lends}
 use Rattle.model.specs.Buffers.{rows_in}
 use Rattle.keys.specs.declared.areas.Area.{Area}
 use Rattle.keys.specs.Facts.{has_key}
+use Rattle.judge.specs.declared.lenders.Lenders.{Lenders}
 use Rattle.judge.specs.Facts.{Ready, lender_of, Known}
 
 digit_lt : {a b n m : ℕ} → a < n → b < m → a * m + b < n * m
@@ -134,6 +138,33 @@ unfolding same
 same_class v w c = cases (eqb v w) (λ t. rw (t, eq-eqb c c refl)) (λ t. rw t)
 
 -- ---- the cache
+
+-- "is none" of what was looked up
+pub no_row : (p : Option ℕ) {none : Bool} → is_some p ≡ not none → none ≡ true → p ≡ None
+no_row None e t = refl
+no_row (Some x) e t = clash refl (rw t at e)
+
 module _ (d : Description) (U : Tables) (a : Area) (v c : ℕ) (few : d.levels ≤ 16) where
-  pub known-none : Known d U a v c (replicate 16 None)
-  known-none = record { size = length-replicate {A = Option ℕ} 16 None; right = λ e g. inl (get_or-replicate {A = Option ℕ} 16 e None None (lt_of_lt_of_le g few)) }
+  pub known-none : Known d U a v c (record { found = replicate 16 None; absent = replicate 16 false })
+  known-none =
+      record {
+        found-long = length-replicate {A = Option ℕ} 16 None;
+        absent-long = length-replicate {A = Bool} 16 false;
+        right = λ e g. inl (get_or-replicate {A = Option ℕ} 16 e None None (lt_of_lt_of_le g few));
+        right-absent = λ e g s. clash s (get_or-replicate {A = Bool} 16 e false false (lt_of_lt_of_le g few));
+      }
+
+  -- once a level was looked up, and is kept as absent only where the entity has no row there
+  pub known-kept : {K : Lenders} {l : ℕ} {p : Option ℕ} {none : Bool} → Known d U a v c K → l < d.levels → p ≡ lender_of U a v c l → (none ≡ true → p ≡ None)
+      → Known d U a v c (record { found = set K.found l p; absent = set K.absent l none })
+  known-kept {K} {l} {p} {none} k h q n =
+      record {
+        found-long = length-set K.found l p ∙ k.found-long;
+        absent-long = length-set K.absent l none ∙ k.absent-long;
+        right = λ e g. cases (eqb e l)
+            (λ t. rw (eqb-true e l t) (inr (get_or-set_same K.found l p None (omega (arith, few, k.found-long, h)) ∙ q)))
+            (λ f. rw (get_or-set_other K.found l e p None (eqb-false e l f)) (k.right e g));
+        right-absent = λ e g. cases (eqb e l)
+            (λ t. rw (eqb-true e l t, get_or-set_same K.absent l none false (omega (arith, few, k.absent-long, h))) (λ s. sym q ∙ n s))
+            (λ f. rw (get_or-set_other K.absent l e none false (eqb-false e l f)) (k.right-absent e g));
+      }

@@ -1,6 +1,6 @@
 -- What the judge's inner functions know of the numbers and slices that they are given.
 -- Assumes nothing: these are definitions and statements.
-use Rattle.std.specs.Prelude.{◌≡◌, Bool, true, ◌&&◌, ◌||◌, ◌≢◌, ◌⊎◌, List, ℕ, suc, ◌+◌, ◌*◌, ◌≤◌, ◌<◌, eqb, ltb, length, get_or, if◌then◌else◌, Option, Some, None}
+use Rattle.std.specs.Prelude.{◌≡◌, Bool, true, false, ◌&&◌, ◌||◌, ◌≢◌, ◌⊎◌, List, ℕ, suc, ◌+◌, ◌*◌, ◌≤◌, ◌<◌, eqb, ltb, length, get_or, if◌then◌else◌, Option, Some, None}
 use Rattle.bounded.specs.Bounded.{all_below}
 use Rattle.model.specs.declared.Description.{Description}
 use Rattle.model.specs.Description.{over, column_count, row_count, foreign_of, refers_of, sound}
@@ -9,6 +9,7 @@ use Rattle.model.specs.Buffers.{rows_in}
 use Rattle.model.specs.Judge.{fits, cell_right, reference_right, row_right}
 use Rattle.keys.specs.declared.areas.Area.{Area}
 use Rattle.keys.specs.Facts.{Once, has_bit, area_of}
+use Rattle.judge.specs.declared.lenders.Lenders.{Lenders}
 
 -- `reference_right` of a reference to relation t
 unfoldable pub names_right : Description → Tables → ℕ → ℕ → Cell → Bool
@@ -110,7 +111,9 @@ right_cell d vs cs a l i k = cell_right d (rows_in d vs cs) a.relation l (rows_i
 abbrev pub right_reference : Description → List ℕ → List ℕ → Area → ℕ → ℕ → Bool
 right_reference d vs cs a l i = reference_right d (rows_in d vs cs) a.relation l (rows_in d vs cs a.relation l i (foreign_of d a.relation))
 
--- what a row's cache holds for each level: nothing, or where the entity's row there starts
-pub record Known (d : Description) (T : Tables) (a : Area) (v c : ℕ) (cache : List (Option ℕ)) : Type 0 where
-  pub size : length cache ≡ 16
-  pub right : (e : ℕ) → e < d.levels → (get_or cache e None ≡ None) ⊎ (get_or cache e None ≡ lender_of T a v c e)
+-- what a row's cache holds for each level: nothing, or where the entity's row there starts, or that there is none
+pub record Known (d : Description) (T : Tables) (a : Area) (v c : ℕ) (cache : Lenders) : Type 0 where
+  pub found-long : length cache.found ≡ 16
+  pub absent-long : length cache.absent ≡ 16
+  pub right : (e : ℕ) → e < d.levels → (get_or cache.found e None ≡ None) ⊎ (get_or cache.found e None ≡ lender_of T a v c e)
+  pub right-absent : (e : ℕ) → e < d.levels → get_or cache.absent e false ≡ true → lender_of T a v c e ≡ None

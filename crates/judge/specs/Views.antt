@@ -1,6 +1,6 @@
 -- What contracts say of the judge's structs.
 -- Assumes nothing: these are definitions.
-use Rattle.std.specs.Prelude.{Bool, Option, List, ℕ, suc}
+use Rattle.std.specs.Prelude.{Bool, Option, ℕ, suc}
 use Rattle.model.specs.declared.Description.{Description}
 use Rattle.model.specs.Tables as model
 use Rattle.model.specs.Tables.{Cell, cell, at, lends}
@@ -10,6 +10,7 @@ use Rattle.judge.specs.declared.tables.Tables.{Tables}
 use Rattle.judge.specs.declared.tables.Relation.{Relation}
 use Rattle.judge.specs.declared.tables.Row.{Row}
 use Rattle.judge.specs.declared.tables.KeyedRow.{KeyedRow}
+use Rattle.judge.specs.declared.lenders.Lenders.{Lenders}
 use Rattle.judge.specs.Facts.{right_row, right_cell, right_reference, lender_of, Known, Fitting, Between}
 
 -- the tables, as the model has them
@@ -58,7 +59,7 @@ abbrev pub lent_at : KeyedRow → ℕ → ℕ → Cell
 lent_at e k l = lends (at (description_of e.row.relation.now) (rows_of e.row.relation.now) e.row.relation.now.area.relation l e.key) (cell e.key e.class) (suc k) l
 
 -- its cache is right
-abbrev pub Knows : KeyedRow → List (Option ℕ) → Type 0
+abbrev pub Knows : KeyedRow → Lenders → Type 0
 Knows e cache = Known (description_of e.row.relation.now) (rows_of e.row.relation.now) e.row.relation.now.area e.key e.class cache
 
 -- the set of the classes that fit in column k + 1

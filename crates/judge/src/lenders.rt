@@ -9,6 +9,13 @@ use keys::areas::at;
 use keys::find;
 use keys::words::has;
 
+// What is known of the levels that were looked up for a row: where the entity's row there starts, or that it has none.
+#[derive(Clone, Copy)]
+pub(crate) struct Lenders {
+    found: [Option<u16>; 16],
+    absent: [bool; 16],
+}
+
 impl KeyedRow<'_> {
     // Where the row of the entity at a level starts.
     fn lender(&self, level: usize) -> Option<u16>
@@ -26,17 +33,21 @@ impl KeyedRow<'_> {
         Some(p as u16)
     }
 
-    // The same, found once for a row and level.
-    fn cached(&self, cache: &mut [Option<u16>; 16], level: usize) -> Option<u16>
+    // The same, looked up once for a row and level.
+    fn cached(&self, cache: &mut Lenders, level: usize) -> Option<u16>
         requires level { level < (description_of self.now.row.relation.now).levels }
         requires known { Knows self.now cache.old }
         ensures { (result ≡ lender_at self.now level) × Knows self.now cache.new }
     {
-        if let Some(known) = cache[level] {
+        if let Some(known) = cache.found[level] {
             return Some(known);
         }
+        if cache.absent[level] {
+            return None;
+        }
         let p = self.lender(level);
-        cache[level] = p;
+        cache.found[level] = p;
+        cache.absent[level] = p.is_none();
         p
     }
 
@@ -58,7 +69,7 @@ impl KeyedRow<'_> {
     }
 
     // Column k + 1 of a row with a key is right.
-    fn cell(&self, cache: &mut [Option<u16>; 16], k: usize, word: u16) -> bool
+    fn cell(&self, cache: &mut Lenders, k: usize, word: u16) -> bool
         requires column { k < self.now.row.relation.now.area.cols }
         requires fitting { FitsColumn self.now k word }
         requires known { Knows self.now cache.old }
@@ -89,7 +100,10 @@ impl KeyedRow<'_> {
     {
         let relation = self.row.relation;
         let column = 9 * relation.area.relation + 1;
-        let mut cache = [None; 16];
+        let mut cache = Lenders {
+            found: [None; 16],
+            absent: [false; 16],
+        };
         for k in 0..relation.area.cols {
             let fit = relation.tables.ranges[column + k] & word;
             if !self.cell(&mut cache, k, fit) {
