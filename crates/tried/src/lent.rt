@@ -7,21 +7,9 @@ pub(crate) struct Cells<'a> {
     pub(crate) classes: &'a mut [u8],
 }
 
-// What a cell's value or class is: the part of it that is changed, or as given.
-fn number(given: &[u32], changes: &[u32], place: usize, part: usize) -> u32 {
-    match changes.chunks(3).find(|cell| size(cell, 0) == place) {
-        Some(cell) => entry(cell, part),
-        None => entry(given, place),
-    }
-}
-
-// Every cell is what is said of its place.
-fn set_each<T: Drop, F: Fn(usize) -> T>(cells: &mut [T], at: F)
-    requires { F.IsAlwaysCallable at }
-{
-    for (place, cell) in cells.iter_mut().enumerate() {
-        *cell = at(place);
-    }
+// A class as it is given.
+fn class(number: u32) -> u8 {
+    (number % 256) as u8
 }
 
 impl<'a> Cells<'a> {
@@ -44,14 +32,29 @@ impl<'a> Cells<'a> {
         (self.values.len(), self.classes.len())
     }
 
-    // As they are given, but for some cells, which are three numbers each: place, value, class.
+    // As they are given.
+    fn give(&mut self, given: &Given) {
+        for (cell, value) in self.values.iter_mut().zip(given.values()) {
+            *cell = *value;
+        }
+        for (cell, number) in self.classes.iter_mut().zip(given.classes()) {
+            *cell = class(*number);
+        }
+    }
+
+    // As they are given, but for some cells, which are three numbers each: place, value, class. Of two for one place the first counts, so the last
+    // is set first.
     pub(crate) fn set(&mut self, given: &Given, changes: &[u32]) {
-        let values = given.values();
-        set_each(self.values, |place| number(values, changes, place, 1));
-        let classes = given.classes();
-        set_each(self.classes, |place| {
-            (number(classes, changes, place, 2) % 256) as u8
-        });
+        self.give(given);
+        for cell in changes.chunks(3).rev() {
+            let place = size(cell, 0);
+            if let Some(value) = self.values.get_mut(place) {
+                *value = entry(cell, 1);
+            }
+            if let Some(owner) = self.classes.get_mut(place) {
+                *owner = class(entry(cell, 2));
+            }
+        }
     }
 
     // As others are, as far as both go.

@@ -1,8 +1,12 @@
 // The input, and the numbers that stand in a line of it.
+ghost use Rattle.std.specs.Prelude.{◌≤◌, length};
+
 use std::io::Read;
 
 // What is read until there is no more room, the input ends or a read fails.
-pub(crate) fn full<'a>(stdin: &mut impl Read, room: &'a mut [u8]) -> &'a [u8] {
+pub(crate) fn full<'a>(stdin: &mut impl Read, room: &'a mut [u8]) -> &'a [u8]
+    ensures { length result.now ≤ length room.old }
+{
     let mut count = 0;
     while count < room.len() {
         match stdin.read(&mut room[count..]) {
@@ -23,7 +27,9 @@ fn grown(number: u32, byte: u8) -> u32 {
 }
 
 // The numbers of a line, as many as there is room for. A number at its very end is not over yet, and is none.
-pub(crate) fn numbers<'a>(line: &[u8], room: &'a mut [u32]) -> &'a [u32] {
+pub(crate) fn numbers<'a>(line: &[u8], room: &'a mut [u32]) -> &'a [u32]
+    ensures { length result.now ≤ length room.old }
+{
     let end = line.iter().rposition(|byte| !byte.is_ascii_digit());
     let ended = &line[..end.unwrap_or(0)];
     let mut count = 0;
