@@ -1,7 +1,7 @@
 -- What a statement is answered: the first of its tests that fails. What its subject sees of its own level, and the tables that an effect leaves.
 -- Assumes nothing.
 use Rattle.model.specs.Answers.{Answer}
-use Prim.Native.Nat.{ℕ, zero, suc}
+use Prim.Native.Nat.{ℕ}
 use mathlib.Core.Path.{◌≡◌, refl, sym, ap, ap₂, ◌∙◌, fun_ext}
 use mathlib.Core.Bool.{Bool, true, false}
 use mathlib.Core.List.{List, [], ◌∷◌}
@@ -9,7 +9,7 @@ use mathlib.Core.Logic.{◌≢◌}
 use mathlib.Core.Option.{Option, none, some}
 use native.Mathlib.Omega.{arith}
 use lib.Dec.{eqb}
-use lib.ListN.{length, take, drop}
+use lib.ListN.{length}
 use borrow.Author.Tests.{eq-eqb, ne_eqb}
 use Rattle.bounded.proofs.Cases.{cases}
 use Rattle.model.specs.declared.Description.{Description}
@@ -40,18 +40,10 @@ pub first-none : first_fault [] ≡ none
 unfolding first_fault
 first-none = refl
 
--- of a list of tests that begins with these
-pub first-begun : (n : ℕ) (ts : List (Bool × Fault)) {f : Fault} → first_fault (take n ts) ≡ some f → first_fault ts ≡ some f
+-- where no test fails, the first passes, and of the others none fails
+pub passed-first : (t : Bool × Fault) (ts : List (Bool × Fault)) → first_fault (t ∷ ts) ≡ none → (t.0 ≡ true) × (first_fault ts ≡ none)
 unfolding first_fault
-first-begun zero ts e = cc
-first-begun (suc n) [] e = e
-first-begun (suc n) (t ∷ ts) e = cases t.0 (λ u. rw u (first-begun n ts (rw u at e))) (λ u. rw u (rw u at e))
-
-pub first-beyond : (n : ℕ) (ts : List (Bool × Fault)) → first_fault (take n ts) ≡ none → first_fault ts ≡ first_fault (drop n ts)
-unfolding first_fault
-first-beyond zero ts e = refl
-first-beyond (suc n) [] e = refl
-first-beyond (suc n) (t ∷ ts) e = cases t.0 (λ u. rw u (first-beyond n ts (rw u at e))) (λ u. let z = (rw u at e) in cc)
+passed-first t ts e = cases t.0 (λ u. (u, rw u at e)) (λ u. let z = (rw u at e) in cc)
 
 -- ---- what a subject sees of its own level
 

@@ -15,8 +15,7 @@ use Rattle.bounded.proofs.Any.{any-cong}
 use Rattle.bounded.proofs.Cases.{cases}
 use Rattle.bounded.proofs.Reflection.{of-true}
 use Rattle.model.specs.declared.Description.{Description}
-use Rattle.std.specs.Prelude.{Ok, Err}
-use Rattle.model.specs.declared.Fault.TheVariants as Faults
+use Rattle.std.specs.Prelude.{Ok}
 use Rattle.model.specs.Description.{between, over, row_count, column_count, foreign_of, refers_of}
 use Rattle.model.specs.Tables.{Cell, State, rows_of, nocell, norow, seek, at}
 use Rattle.model.specs.Buffers.{holding, state_of}
@@ -35,11 +34,9 @@ use Rattle.above.specs.declared.plan.Change.{Change}
 use Rattle.above.specs.declared.plan.Change.TheVariants as Changes
 use Rattle.above.specs.Facts.{chosen_at, planned, effect_of, change_of, above_of, carried, with_rows, Working, Planned}
 use Rattle.theory.proofs.Seen.{seen-own}
-use Rattle.change.specs.Facts.{Standing, Deletes, refuses, does, sight, met_rows}
+use Rattle.change.specs.Facts.{Standing, Deletes, does, sight, met_rows}
 use Rattle.chosen.specs.Choosing.{Chosen, row_chosen, empty_chosen, names_chosen, row_refers, refers_chosen, referred_chosen}
 use Rattle.cells.proofs.Counts.{sound-says, relation-is}
-use Rattle.change.proofs.Answers.{first-fails, first_passes, first-none}
-use Rattle.change.proofs.Known.{own-over}
 use Rattle.chosen.proofs.Carrying.{left-chosen, sought-met, own-seen, own-met, above-met}
 
 -- ---- the plan
@@ -168,13 +165,3 @@ module _ {d : Description} {r c : ℕ} {vs cs : List ℕ} (K : Standing d r c vs
   pub delete-done : first_fault (delete_tests d c r conditions (sight d c vs cs)) ≡ none → {count : ℕ} → count ≡ met_rows d c r conditions (sight d c vs cs) → {us ds : List ℕ}
       → state_of d (holding us ds) ≡ left d c (some (empty_chosen d c r chosen (T c).rows)) T → Deletes d c r conditions vs cs us ds (Ok count)
   delete-done n C m = does n (ap Ok C) (m ∙ ap (λ (E : Effect). left d c (some E) T) effect_is)
-
-  -- it is refused where a chosen row is referred to
-  module _ {b : Bool} (z : b ≡ referred_chosen d vs chosen r c) where
-    pub delete-refused : b ≡ true → Deletes d c r conditions vs cs vs cs (Err Faults.Referred)
-    unfolding delete_tests
-    delete-refused t = refuses _ (first-fails _ _ (referred-test d vs cs c r (own-over K) conditions M z ∙ ap not t)) refl refl refl
-
-    pub delete-passes : b ≡ false → first_fault (delete_tests d c r conditions (sight d c vs cs)) ≡ none
-    unfolding delete_tests
-    delete-passes t = first_passes _ _ (referred-test d vs cs c r (own-over K) conditions M z ∙ ap not t) ∙ first-none

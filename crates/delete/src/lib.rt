@@ -4,8 +4,11 @@
 ghost use Rattle.std.specs.Prelude.{◌≡◌, true, length, ◌<◌};
 ghost use Rattle.model.specs.Tables.{norow};
 ghost use Rattle.model.specs.Conditions.{conditions_formed};
+ghost use Rattle.model.specs.Delete.{delete_tests};
 ghost use Rattle.cells.specs.Layout.{Sized, Lent, InLevel};
-ghost use Rattle.change.specs.Facts.{Standing, Naming, Deletes};
+ghost use Rattle.conditions.specs.Facts.{ChosenAt};
+ghost use Rattle.change.specs.Facts.{Standing, Naming, Deletes, sight};
+ghost use Rattle.change.specs.Tests.{ended};
 ghost use Rattle.chosen.specs.Choosing.{OnlyUsed, empty_chosen, RowsDone, Leaves, names_chosen, refers_chosen, referred_chosen};
 
 use above::above;
@@ -73,6 +76,18 @@ impl Rows {
         false
     }
 
+    // The tests, in their order, where the rows that meet the conditions are chosen.
+    fn check(&self, values: &[u32], classes: &[u8], conditions: &[u32]) -> Result<(), Fault>
+        requires naming { Naming self.now.table.part.description self.now.table.part.relation self.now.level (length values.now) }
+        requires chosen_at { ChosenAt self.now.table.part.description self.now.table.part.relation self.now.level conditions.now values.now classes.now self.now.chosen }
+        ensures { result ≡ ended (delete_tests self.now.table.part.description self.now.level self.now.table.part.relation conditions.now (sight self.now.table.part.description self.now.level values.now classes.now)) }
+    {
+        if self.referred(values) {
+            return Err(Fault::Referred);
+        }
+        Ok(())
+    }
+
     // Each row that is chosen is emptied. UPDATE's `Set::rows` is alike but for the call: a closure over both buffers would be no plainer.
     fn clear(&self, values: &mut [u32], classes: &mut [u8])
         requires { Lent self.now.table.part.description (length values.old) (length classes.old) }
@@ -106,7 +121,7 @@ impl Rows {
     }
 }
 
-// The test; then the rows above, and the rows at the subject's level.
+// The tests; then the rows above, and the rows at the subject's level.
 pub fn delete(
     values: &mut [u32],
     classes: &mut [u8],
@@ -124,9 +139,7 @@ pub fn delete(
         level,
         chosen,
     };
-    if rows.referred(values) {
-        return Err(Fault::Referred);
-    }
+    rows.check(values, classes, conditions)?;
     rows.write(values, classes);
     Ok(count(chosen, table.part.rows))
 }

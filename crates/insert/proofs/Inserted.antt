@@ -4,20 +4,19 @@ use Rattle.std.specs.Prelude.{if◌then◌else◌}
 use Prim.Native.Nat.{ℕ, ◌%◌, ◌≤◌, ◌<◌}
 use mathlib.Core.Path.{◌≡◌, refl, sym, ap, ap₂, ◌∙◌}
 use mathlib.Core.Bool.{Bool, true, false, not, ◌&&◌}
-use mathlib.Core.List.{List, []}
+use mathlib.Core.List.{List}
 use mathlib.Core.Logic.{◌≢◌}
 use mathlib.Core.Option.{Option, none, some}
-use lib.Dec.{eqb}
+use lib.Dec.{eqb, ltb}
 use lib.ListN.{length}
-use borrow.Author.Tests.{eq-eqb, ne_eqb, lt-ltb, le-ltb, eqb-true}
+use borrow.Author.Tests.{eq-eqb, ne_eqb, eqb-true}
 use Rattle.bounded.specs.Bounded.{some_below}
-use Rattle.bounded.proofs.Found.{some-below, none-below}
+use Rattle.bounded.proofs.Found.{some-below}
 use Rattle.bounded.proofs.Cases.{cases, clash}
 use Rattle.bounded.proofs.Reflection.{is_false, of-true, of-false, bool-r, not-r, and_r, eqb-r}
 use Rattle.model.specs.declared.Description.{Description}
 use Rattle.model.specs.declared.Fault.{Fault}
-use Rattle.model.specs.declared.Fault.TheVariants as Faults
-use Rattle.std.specs.Prelude.{Ok, Err, Some, None, Option as Opt, is_some, ok_or, take}
+use Rattle.std.specs.Prelude.{Ok, Some, Option as Opt, is_some}
 use Rattle.model.specs.Description.{between, is_column, row_count, column_count, in_range}
 use Rattle.model.specs.Tables.{Row, State, rows_of, cell, nocell, own_null, used, at}
 use Rattle.model.specs.Buffers.{Buffers, holding, inside, state_of}
@@ -34,10 +33,8 @@ use Rattle.asked.specs.declared.pairs.Rule.TheVariants as Rules
 use Rattle.asked.specs.Facts.{rule_of}
 use Rattle.theory.proofs.Listed.{each-listed}
 use Rattle.theory.proofs.Seen.{seen_at, seen-own}
-use Rattle.change.specs.Facts.{Standing, Filled, Inserts, refuses, does, sight, value_listed}
-use Rattle.change.specs.Tests.{ended}
-use Rattle.change.proofs.Ended.{failed-by, passed-by}
-use Rattle.change.proofs.Answers.{first-fails, first_passes, first-none, first-begun, first-beyond, left-own, left-still}
+use Rattle.change.specs.Facts.{Standing, Filled, Inserts, does, sight, value_listed}
+use Rattle.change.proofs.Answers.{passed-first, left-own, left-still}
 use Rattle.change.proofs.Known.{own-over}
 use Rattle.change.proofs.Sought.{used-some}
 
@@ -130,13 +127,10 @@ module _ (d : Description) (c r : ℕ) (list : List ℕ) (b : Buffers) where
 
 -- ---- its tests, and what is answered
 
-unfound : {o : Opt ℕ} {e f : Fault} → Err e ≡ ok_or o f → (o ≡ None) × (e ≡ f)
-unfound {o = None} p = (refl, cc)
-unfound {o = Some x} p = cc
-
-there : {o : Opt ℕ} {x : ℕ} (f : Fault) → Ok x ≡ ok_or o f → o ≡ Some x
-there {o = None} f p = cc
-there {o = Some y} f p = cc
+-- a search has found something where it came to a number below n
+some-is : (n k : ℕ) → ltb k n ≡ is_some (some_below n k)
+unfolding some_below
+some-is n k = cases (ltb k n) (λ t. rw t) (λ t. rw t)
 
 module _ (d : Description) (r : ℕ) (list : List ℕ) (h : insert_formed d r list ≡ true) where
   says : (whole 2 list ≡ true) × ((each (λ k v. is_column d r k) list ≡ true) × ((columns_once list ≡ true) × (key_listed list ≢ 0)))
@@ -171,25 +165,17 @@ module _ {d : Description} {r c : ℕ} {vs cs : List ℕ} (K : Standing d r c vs
       (ap used (seen_at d T c r c (key_listed list) (own-over K))
       ∙ sym (used-some d vs cs r c (key_listed list) (formed-keyed d r list formed-is) (y ∙ ap (some_below (row_count d r)) (ap (key_place d vs r c) (x ∙ key-listed list)))))
 
-  -- one of the tests but the last fails
-  pub unbegun : {f : Fault} → Err f ≡ ended (take 3 tests) → Inserts d c r list vs cs vs cs (Err f)
-  unbegun p = refuses _ (first-begun 3 tests (failed-by p refl)) refl refl refl
+  pub room-test : {o : Opt ℕ} → Found d r (lowest_empty d (T c).rows r) o → has_room d (seeing c).rows r ≡ is_some o
+  unfolding has_room
+  room-test q = rw (own, q) (some-is _ _)
 
-  -- the last one fails, or none
-  module _ (p : Ok tt ≡ ended (take 3 tests)) {o : Opt ℕ} (q : Found d r (lowest_empty d (T c).rows r) o) where
-    pub full : {f : Fault} → Err f ≡ ok_or o Faults.Full → Inserts d c r list vs cs vs cs (Err f)
-    unfolding insert_tests has_room
-    full e =
-        let n = unfound e in
-        let h = none-below _ _ (sym n.0 ∙ q) in
-        refuses _ (first-beyond 3 tests (passed-by p refl) ∙ first-fails Faults.Full [] (rw (own, le-ltb _ _ h)) ∙ ap some (sym n.1)) refl refl refl
+  -- where no test fails there is a row
+  pub room : {o : Opt ℕ} → Found d r (lowest_empty d (T c).rows r) o → first_fault tests ≡ none → is_some o ≡ true
+  unfolding insert_tests
+  room q n = sym (room-test q) ∙ (passed-first _ _ (passed-first _ _ (passed-first _ _ (passed-first _ _ n).1).1).1).0
 
-    pub found : {row : ℕ} → Ok row ≡ ok_or o Faults.Full → (row ≡ lowest_empty d (T c).rows r) × (lowest_empty d (T c).rows r < row_count d r)
-    found e = some-below _ _ (sym (there _ e) ∙ q)
-
-    pub room : {row : ℕ} → Ok row ≡ ok_or o Faults.Full → first_fault tests ≡ none
-    unfolding insert_tests has_room
-    room e = first-beyond 3 tests (passed-by p refl) ∙ (first_passes Faults.Full [] (rw (own, lt-ltb _ _ (found e).1)) ∙ first-none)
+  pub found : {o : Opt ℕ} {row : ℕ} → Found d r (lowest_empty d (T c).rows r) o → o ≡ Some row → (row ≡ lowest_empty d (T c).rows r) × (lowest_empty d (T c).rows r < row_count d r)
+  found q e = some-below _ _ (sym e ∙ q)
 
   pub insert-done : {row : ℕ} → row ≡ lowest_empty d (T c).rows r → first_fault tests ≡ none → {news owners us ds : List ℕ} → Filled (column_count d r) (value_listed list) news
       → Filled (column_count d r) (λ k. (new_row d c r list k).class) owners

@@ -1,8 +1,11 @@
 // INSERT (columns and values).
 #![tactic(auto)]
 
-ghost use Rattle.std.specs.Prelude.{◌≡◌, true, ◌≤◌, take};
+ghost use Rattle.std.specs.Prelude.{◌≡◌, true, ◌≤◌};
+ghost use Rattle.model.specs.Buffers.{holding, state_of};
+ghost use Rattle.model.specs.Effect.{lowest_empty};
 ghost use Rattle.model.specs.Insert.{insert_formed, insert_tests, new_row};
+ghost use Rattle.cells.specs.Layout.{Row};
 ghost use Rattle.change.specs.Facts.{Standing, Inserts, Filled, sight, value_listed};
 ghost use Rattle.change.specs.Tests.{ended};
 
@@ -62,17 +65,19 @@ fn owners(list: &[u32], columns: Columns, level: u8) -> [u8; 9]
     owners
 }
 
-// The tests in their order, but for the last: whether a row is empty.
+// The tests, in their order, where the lowest empty row is known.
 fn check(
     values: &[u32],
     classes: &[u8],
     list: &[u32],
     table: Table,
     level: usize,
+    row: Option<usize>,
 ) -> Result<(), Fault>
     requires standing { Standing table.part.description table.part.relation level values.now classes.now }
     requires formed_list { insert_formed table.part.description table.part.relation list.now ≡ true }
-    ensures { result ≡ ended (take 3 (insert_tests table.part.description level table.part.relation list.now (sight table.part.description level values.now classes.now))) }
+    requires row { Row table.part.description table.part.relation (lowest_empty table.part.description (state_of table.part.description (holding values.now classes.now) level).rows table.part.relation) row }
+    ensures { result ≡ ended (insert_tests table.part.description level table.part.relation list.now (sight table.part.description level values.now classes.now)) }
 {
     let part = table.part;
     if !table.columns().each(list, Rule::Takes { level }) {
@@ -84,6 +89,9 @@ fn check(
     }
     if !listed(values, list, part.description, part.relation, level) {
         return Err(Fault::Reference);
+    }
+    if row.is_none() {
+        return Err(Fault::Full);
     }
     Ok(())
 }
@@ -100,12 +108,13 @@ pub fn insert(
     requires formed_list { insert_formed table.part.description table.part.relation list.now ≡ true }
     ensures { Inserts table.part.description level table.part.relation list.now values.old classes.old values.new classes.new result }
 {
-    check(values, classes, list, table, level)?;
     let part = table.part;
-    let row = part.lowest(values, classes, level).ok_or(Fault::Full)?;
+    let row = part.lowest(values, classes, level);
+    check(values, classes, list, table, level, row)?;
     let columns = table.columns();
     let news = news(list, columns.count);
     let owners = owners(list, columns, level as u8);
-    part.store(values, classes, level, row, news, owners);
+    // there is a row, or `check` had refused
+    part.store(values, classes, level, row.unwrap(), news, owners);
     Ok(1)
 }

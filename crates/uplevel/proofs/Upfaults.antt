@@ -1,10 +1,10 @@
 -- UPLEVEL's tests: each is what the code asks, and the first that fails is answered.
 -- Assumes nothing.
-use Rattle.std.specs.Prelude.{Ok, Err, Option, Some, None, is_some, ok_or, take}
+use Rattle.std.specs.Prelude.{Ok, Err, Option, Some, None, is_some, ok_or}
 use Prim.Native.Nat.{ℕ, ◌≤◌, ◌<◌}
 use mathlib.Core.Path.{◌≡◌, refl, sym, ap, ◌∙◌}
 use mathlib.Core.Bool.{Bool, true, false, not, ◌&&◌, ◌||◌}
-use mathlib.Core.List.{List, [], ◌∷◌}
+use mathlib.Core.List.{List, ◌∷◌}
 use mathlib.Core.Logic.{◌≢◌}
 use mathlib.Core.Option.{none, some}
 use native.Mathlib.Omega.{arith}
@@ -32,12 +32,10 @@ use Rattle.asked.specs.declared.pairs.Rule.TheVariants as Rules
 use Rattle.asked.specs.Facts.{rule_of}
 use Rattle.theory.proofs.Seen.{seen_at, seen-own}
 use Rattle.change.specs.Facts.{Answered, refuses, does, sight, Uplevels}
-use Rattle.change.specs.Tests.{ended}
 use Rattle.uplevel.specs.Raising.{given_of, sole_of, own_of, class_seen, levels_seen, later_tests, spot_of}
 use Rattle.uplevel.specs.Raised.{Raises}
 use Rattle.change.proofs.Sought.{used-is}
-use Rattle.change.proofs.Answers.{first-fails, first_passes, first-none, first-beyond}
-use Rattle.change.proofs.Ended.{passed-by}
+use Rattle.change.proofs.Answers.{first-fails, first_passes, passed-first}
 use Rattle.uplevel.proofs.Entities.{some-is, level-few, entity-is}
 use Rattle.uplevel.proofs.Sole.{Sole}
 
@@ -174,11 +172,6 @@ module _ (d : Description) (r : ℕ) (B : Rows) where
   spot-room None = some-is _ _
   spot-room (Some i) = refl
 
--- the fault that is answered where there is none
-pub unfound : {o : Option ℕ} {e f : Fault} → Err e ≡ ok_or o f → (o ≡ None) × (e ≡ f)
-unfound {o = None} p = (refl, cc)
-unfound {o = Some x} p = cc
-
 -- ---- the tests after the entity is known
 
 turned : (k h : Bool) → (not k || h) ≡ not (not h && k)
@@ -197,22 +190,17 @@ module _ (d : Description) (vs cs : List ℕ) (c r key class : ℕ) (o : over d 
       rw (seen_at d S c r c key o, ← (used-is d vs cs r c key nz refl), ← (entity-is d vs cs r c key class nz e))
       (turned (ltb (key_place d vs r c key) (row_count d r)) (is_some here))
 
-  full-test : (same (at d (rows_of (seen d c S)) r c key 1) (cell key class) || has_room d (seen d c S c).rows r) ≡ is_some (spot_of d r here (S c).rows)
+  pub full-test : (same (at d (rows_of (seen d c S)) r c key 1) (cell key class) || has_room d (seen d c S c).rows r) ≡ is_some (spot_of d r here (S c).rows)
   full-test = rw (seen_at d S c r c key o, seen-own d S c o, ← (entity-is d vs cs r c key class nz e)) (sym (spot-room d r (S c).rows here))
 
   module _ (list : List ℕ) where
     abbrev tests : List (Bool × Fault)
     tests = later_tests d c r (cell key class) list (seen d c S)
 
-    -- the last of the tests fails, or none
-    module _ (p : Ok tt ≡ ended (take 3 tests)) {row : Option ℕ} (q : row ≡ spot_of d r here (S c).rows) where
-      pub full : row ≡ None → first_fault tests ≡ some Faults.Full
-      unfolding later_tests
-      full z = first-beyond 3 tests (passed-by p refl) ∙ first-fails Faults.Full [] (full-test ∙ ap is_some (sym q ∙ z))
-
-      pub room : {i : ℕ} → row ≡ Some i → first_fault tests ≡ none
-      unfolding later_tests
-      room z = first-beyond 3 tests (passed-by p refl) ∙ (first_passes Faults.Full [] (full-test ∙ ap is_some (sym q ∙ z)) ∙ first-none)
+    -- where none fails there is a row
+    pub room : {row : Option ℕ} → row ≡ spot_of d r here (S c).rows → first_fault tests ≡ none → is_some row ≡ true
+    unfolding later_tests
+    room q n = ap is_some q ∙ sym full-test ∙ (passed-first _ _ (passed-first _ _ (passed-first _ _ (passed-first _ _ n).1).1).1).0
 
 -- what is asked of each FROM level
 pub class-test : (d : Description) (r class : ℕ) (list : List ℕ) {a : Bool} → a ≡ each (rule_of d r (Rules.Above class)) list → each (λ k a. over d a class) list ≡ a

@@ -50,11 +50,19 @@ fn raise(values: &mut [u32], classes: &mut [u8], raising: &Raising) -> Answer
     let subject = raising.subject;
     let entity = raising.entity;
     let here = part.entity(values, classes, subject, entity.key, entity.class);
-    raising.check(values, classes, here)?;
-    let row = spot(values, classes, part, subject, here).ok_or(Fault::Full)?;
+    let row = spot(values, classes, part, subject, here);
+    raising.check(values, classes, here, row)?;
     let news = raising.compose(values, classes);
     reach(values, classes, raising.table, subject, here, news);
-    part.store(values, classes, subject, row, news.values, news.classes);
+    // there is a row, or `check` had refused
+    part.store(
+        values,
+        classes,
+        subject,
+        row.unwrap(),
+        news.values,
+        news.classes,
+    );
     Ok(1)
 }
 

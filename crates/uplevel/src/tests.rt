@@ -1,13 +1,14 @@
 // The tests after the entity is known.
-ghost use Rattle.std.specs.Prelude.{◌≡◌, not, ◌&&◌, ltb, length, is_some, take};
+ghost use Rattle.std.specs.Prelude.{◌≡◌, not, ◌&&◌, ltb, length, is_some};
 ghost use Rattle.model.specs.Description.{row_count};
+ghost use Rattle.model.specs.Buffers.{holding, state_of};
 ghost use Rattle.model.specs.Tables.{cell, rows_of};
 ghost use Rattle.model.specs.Uplevel.{borrowed_names};
 ghost use Rattle.cells.specs.Layout.{Sized, InLevel, Row};
 ghost use Rattle.cells.specs.Changed.{key_place, entity_place};
 ghost use Rattle.change.specs.Facts.{Standing, sight};
 ghost use Rattle.change.specs.Tests.{ended};
-ghost use Rattle.uplevel.specs.Raising.{later_tests};
+ghost use Rattle.uplevel.specs.Raising.{later_tests, spot_of};
 
 use crate::lenders::lent;
 use crate::raising::Raising;
@@ -46,16 +47,18 @@ impl Raising<'_> {
         names(values, description, relation, self.subject, value)
     }
 
-    // The tests after the entity is known, in their order, but for the last: whether there is a row. The entity's at the subject's level is `here`.
+    // The tests after the entity is known, in their order, where its row at the subject's level is `here`, and the one that it gets is `row`.
     pub(crate) fn check(
         &self,
         values: &[u32],
         classes: &[u8],
         here: Option<usize>,
+        row: Option<usize>,
     ) -> Result<(), Fault>
         requires standing { Standing self.now.table.part.description self.now.table.part.relation self.now.subject values.now classes.now }
         requires found { Row self.now.table.part.description self.now.table.part.relation (entity_place self.now.table.part.description values.now classes.now self.now.table.part.relation self.now.subject self.now.entity.key self.now.entity.class) here }
-        ensures { result ≡ ended (take 3 (later_tests self.now.table.part.description self.now.subject self.now.table.part.relation (cell self.now.entity.key self.now.entity.class) self.now.list.now (sight self.now.table.part.description self.now.subject values.now classes.now))) }
+        requires spot { row ≡ spot_of self.now.table.part.description self.now.table.part.relation here (state_of self.now.table.part.description (holding values.now classes.now) self.now.subject).rows }
+        ensures { result ≡ ended (later_tests self.now.table.part.description self.now.subject self.now.table.part.relation (cell self.now.entity.key self.now.entity.class) self.now.list.now (sight self.now.table.part.description self.now.subject values.now classes.now)) }
     {
         let part = self.table.part;
         if taken(values, part, self.subject, self.entity.key, here) {
@@ -67,6 +70,9 @@ impl Raising<'_> {
         }
         if !self.borrowed(values, classes) {
             return Err(Fault::Reference);
+        }
+        if row.is_none() {
+            return Err(Fault::Full);
         }
         Ok(())
     }

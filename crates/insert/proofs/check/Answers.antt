@@ -3,7 +3,7 @@ use mathlib.Core.Bool.{not}
 use Rattle.model.specs.Insert.{insert_tests}
 use Rattle.change.proofs.Ended.{fails, passes, no_more, range-test, names-test}
 use Rattle.change.proofs.Known.{own-level, own-over}
-use Rattle.insert.proofs.Inserted.{formed-columns, taken-test}
+use Rattle.insert.proofs.Inserted.{formed-columns, taken-test, room-test}
 use Rattle.insert.proofs.check.Goals as goal
 
 pub returns-then-not-each : goal.returns-then-not-each
@@ -30,9 +30,18 @@ returns-then-not-listed c = let e = rw (c.columns.ensures.described, c.columns.e
     (passes _ _ (taken-test c.requires.standing _ c.requires.formed_list c.value-key.ensures c.find.ensures ∙ ap not (sym c.is_some.ensures ∙ c.if-is_some.false))
     (fails _ _ (names-test _ _ _ _ _ _ (own-over c.requires.standing) c.listed.ensures ∙ c.if-not-listed.true)))
 
+pub returns-then-is_none : goal.returns-then-is_none
+unfolding insert_tests
+returns-then-is_none c = let e = rw (c.columns.ensures.described, c.columns.ensures.of_relation) at c.each.ensures in
+    passes _ _ (range-test _ _ _ _ e ∙ c.if-not-each.false)
+    (passes _ _ (taken-test c.requires.standing _ c.requires.formed_list c.value-key.ensures c.find.ensures ∙ ap not (sym c.is_some.ensures ∙ c.if-is_some.false))
+    (passes _ _ (names-test _ _ _ _ _ _ (own-over c.requires.standing) c.listed.ensures ∙ c.if-not-listed.false)
+    (fails _ _ (room-test c.requires.standing _ c.requires.formed_list c.requires.row ∙ c.is_none.ensures ∙ ap not c.if-is_none.true))))
+
 pub returns : goal.returns
 unfolding insert_tests
 returns c = let e = rw (c.columns.ensures.described, c.columns.ensures.of_relation) at c.each.ensures in
     passes _ _ (range-test _ _ _ _ e ∙ c.if-not-each.false)
     (passes _ _ (taken-test c.requires.standing _ c.requires.formed_list c.value-key.ensures c.find.ensures ∙ ap not (sym c.is_some.ensures ∙ c.if-is_some.false))
-    (passes _ _ (names-test _ _ _ _ _ _ (own-over c.requires.standing) c.listed.ensures ∙ c.if-not-listed.false) no_more))
+    (passes _ _ (names-test _ _ _ _ _ _ (own-over c.requires.standing) c.listed.ensures ∙ c.if-not-listed.false)
+    (passes _ _ (room-test c.requires.standing _ c.requires.formed_list c.requires.row ∙ c.is_none.ensures ∙ ap not c.if-is_none.false) no_more)))
