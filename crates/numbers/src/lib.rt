@@ -7,6 +7,7 @@ ghost use Rattle.model.specs.Numbers.{fault_number, answer_number, count_of, ver
 use model::{Answer, Fault, Verdict};
 
 // The number of a fault.
+#[tactic(auto, using(crate::proofs::Places::place))]
 fn fault(fault: Fault) -> u32
     ensures { result ≡ fault_number fault }
 {

@@ -1,13 +1,13 @@
 -- The number of each fault is its place among them, from 1.
+-- Assumes nothing.
 use Rattle.std.proofs.Common.{◌≡◌, ◌+◌, refl}
 use Rattle.model.specs.Numbers.{fault_number}
 use Rattle.model.specs.contracts.Fault.{the_type}
 use Rattle.model.specs.declared.Fault.{Fault}
 use Rattle.model.specs.declared.Fault.TheVariants as Faults
 use denote.Enum.Declared.{tag_of}
-use Rattle.numbers.proofs.fault.Goals as goal
 
-place : (fault : Fault) → tag_of the_type fault + 1 ≡ fault_number fault
+pub place : (fault : Fault) → tag_of the_type fault + 1 ≡ fault_number fault
 unfolding fault_number
 place Faults.Description = refl
 place Faults.Length = refl
@@ -23,6 +23,3 @@ place Faults.Reference = refl
 place Faults.Referred = refl
 place Faults.Full = refl
 place Faults.Short = refl
-
-pub returns : goal.returns
-returns c = place c.args.fault
