@@ -17,14 +17,14 @@ use Rattle.lines.specs.declared.writer.Writer.{Writer}
 
 -- ---- a text behind a text
 
-written-append : (at : ℕ) (s t b : List ℕ) → written at (s ++ t) b ≡ written (at + length s) t (written at s b)
+pub written-append : (at : ℕ) (s t b : List ℕ) → written at (s ++ t) b ≡ written (at + length s) t (written at s b)
 unfolding written
 written-append at [] t b = rw add-zero
 written-append at (byte ∷ s) t b =
     let e : at + length (byte ∷ s) ≡ suc at + length s = omega arith in
     rw e (written-append (suc at) s t (set b at byte))
 
-wrote_on : {at n m : ℕ} {s t b c d : List ℕ} → Wrote at s b c n → Wrote n t c d m → Wrote at (s ++ t) b d m
+pub wrote_on : {at n m : ℕ} {s t b c d : List ℕ} → Wrote at s b c n → Wrote n t c d m → Wrote at (s ++ t) b d m
 wrote_on {at} {n} {m} {s} {t} {b} {c} {d} p q =
     record { is = q.is ∙ rw (p.next-is, p.is) (sym (written-append at s t b)); next-is = q.next-is ∙ rw p.next-is (omega (arith, length-append s t)) }
 
