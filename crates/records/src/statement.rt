@@ -31,8 +31,8 @@ fn what(bytes: &[u8]) -> Option<What>
     }
 }
 
-// Where a list ends that begins at a place.
-#[tactic(auto, unfolding(crate::specs::Statements::end_of))]
+// Where a list ends that begins at a place. The widths are unfolded for the wrong programs that give one kind of entry an arm of its own.
+#[tactic(auto, unfolding(crate::specs::Statements::end_of, crate::specs::Kinds::width))]
 fn list_end(bytes: &[u8], entry: Option<Entry>, at: usize) -> usize
     requires { at ≤ 1000000 }
     ensures { (result ≡ end_of bytes.now entry at) × (result ≤ at + 655352) }
